@@ -1,0 +1,13 @@
+pub mod Openings
+pub mod Scans
+pub mod Texts
+pub mod Forms
+pub mod Steps
+pub mod Stages
+pub mod Sound
+pub mod Complete
+pub mod Saying
+pub mod Known
+pub mod Chains
+pub mod Began
+pub mod Whole
