@@ -1,0 +1,5 @@
+// Tests of both sides of each limit, and of what memory holds afterwards.
+#[cfg(test)]
+mod fitting;
+#[cfg(test)]
+mod reading;
