@@ -43,11 +43,11 @@ use Rattle.ios.proofs.Known.{Known}
 use Rattle.ios.proofs.Chains.{Good, Then, both, End, end, Key, good-then, never, by-test, stopped, first-stopped, here, widened, after, chain, key-took}
 
 -- an example of a form of one word
-one : {A : Type 0} {R : List ℕ → A → Type 0} (w : List ℕ) (a : A) → R w a → Good (One R)
+pub one : {A : Type 0} {R : List ℕ → A → Type 0} (w : List ℕ) (a : A) → R w a → Good (One R)
 one w a t = record { words = w ∷ []; value = a; text = record { word = w; only = refl; text = t } }
 
 -- the column of a stop
-stop-column : {A : Type 0} (why : Refusal) (c : ℕ) (t : Stop) → _≡_ {A = Result A Stop} (Err (stop why c)) (Err t) → t .column ≡ c
+pub stop-column : {A : Type 0} (why : Refusal) (c : ℕ) (t : Stop) → _≡_ {A = Result A Stop} (Err (stop why c)) (Err t) → t .column ≡ c
 stop-column why c t e = let k : stop why c ≡ t = cc in ap (λ s. s .column) (sym k)
 
 -- the stop of a word that lacks a value is at it
@@ -62,7 +62,7 @@ word-stop g why z [] t e = stop-column BadWord z t e
 word-stop g why z (w ∷ ws) t e = valued-stop (g (w .bytes)) why (w .column) (restBy z ws) t e
 
 -- the least number of a range
-least : (low high : ℕ) → low ≤ high → NumberText low high (decimal low) low
+pub least : (low high : ℕ) → low ≤ high → NumberText low high (decimal low) low
 least low high h = record { bytes = refl; least = omega arith; most = h }
 
 pub number-began : (low high z : ℕ) (ws : List Spanned) (s : Stop) → low ≤ high → numberOf low high (restBy z ws) ≡ Err s
@@ -70,7 +70,7 @@ pub number-began : (low high z : ℕ) (ws : List Spanned) (s : Stop) → low ≤
 number-began low high z ws s h e = here z ws _ (one _ low (least low high h)) (word-stop (numberIn low high) BadNumber z ws s e)
 
 -- 0.0.0.0
-good-address : Good (One AddressText)
+pub good-address : Good (One AddressText)
 good-address =
     one (decimal 0 ++ (46 ∷ (decimal 0 ++ (46 ∷ (decimal 0 ++ (46 ∷ decimal 0)))))) 0
     (record { a = 0; b = 0; c = 0; d = 0; small = (omega arith, omega arith, omega arith, omega arith); bytes = refl; value = refl })
@@ -254,7 +254,7 @@ good-log = record { words = []; value = false; text = LogText.no-log }
 log-never : {X : Type 0} (z : ℕ) (ws : List Spanned) (s : Stop) → logOf (restBy z ws) ≡ Err s → X
 log-never z ws s e = by-test (nextBy ws (codes "log")) _ _ s (λ _ x. never _ s x) (λ x. never _ s x) e
 
-good-end : {A : Type 0} (a : A) → Good (End a)
+pub good-end : {A : Type 0} (a : A) → Good (End a)
 good-end a = record { words = []; value = a; text = end }
 
 -- a word that is left over stands after a whole line

@@ -56,7 +56,7 @@ nil-case P h [] e = h
 nil-case P h (u ∷ us) e = let z : _≡_ {A = ℕ} 0 1 = cc in absurd (omega arith)
 
 -- words whose bytes are those of two forms
-append-case : (P : List Spanned → Type 0) (ss gs : List (List ℕ))
+pub append-case : (P : List Spanned → Type 0) (ss gs : List (List ℕ))
     → ((xs : List Spanned) → map bytesOf xs ≡ ss → (ys : List Spanned) → map bytesOf ys ≡ gs → P (xs ++ ys)) → (us : List Spanned)
     → map bytesOf us ≡ ss ++ gs → P us
 append-case P [] gs h us e = h [] refl us e
@@ -64,10 +64,10 @@ append-case P (s ∷ ss) gs h us e = cons-case P s (ss ++ gs)
     (λ c. append-case (λ us. P (spanned c s ∷ us)) ss gs (λ xs p. h (spanned c s ∷ xs) (ap (λ l. s ∷ l) p))) us e
 
 -- words with the bytes vs are taken before more
-abbrev Takes : {A : Type 0} → (Rest → Step A) → List (List ℕ) → A → List Spanned → Type 0
+abbrev pub Takes : {A : Type 0} → (Rest → Step A) → List (List ℕ) → A → List Spanned → Type 0
 Takes step vs a more = (z : ℕ) (us : List Spanned) → map bytesOf us ≡ vs → step (restBy z (us ++ more)) ≡ Ok (a, restBy z more)
 
-one-word : {A : Type 0} (step : Rest → Step A) (k : List ℕ) (a : A) (more : List Spanned)
+pub one-word : {A : Type 0} (step : Rest → Step A) (k : List ℕ) (a : A) (more : List Spanned)
     → ((z c : ℕ) → step (restBy z (spanned c k ∷ more)) ≡ Ok (a, restBy z more)) → Takes step (k ∷ []) a more
 one-word step k a more h z =
     let P : List Spanned → Type 0 = λ us. step (restBy z (us ++ more)) ≡ Ok (a, restBy z more) in
@@ -83,7 +83,7 @@ pub number-takes : (low high n z c : ℕ) (w : List ℕ) (more : List Spanned) �
     → numberOf low high (restBy z (spanned c w ∷ more)) ≡ Ok (n, restBy z more)
 number-takes low high n z c w more h e l u = ap (λ o. valued o BadNumber c (restBy z more)) (ap (numberIn low high) e ∙ every low high n h l u)
 
-address-takes : (w : List ℕ) (a z c : ℕ) (more : List Spanned) → AddressText w a → addressOf (restBy z (spanned c w ∷ more)) ≡ Ok (a, restBy z more)
+pub address-takes : (w : List ℕ) (a z c : ℕ) (more : List Spanned) → AddressText w a → addressOf (restBy z (spanned c w ∷ more)) ≡ Ok (a, restBy z more)
 address-takes w a z c more t = ap (λ o. valued o BadAddress c (restBy z more)) (address-every w a t)
 
 apart : (a : ℕ) (x y : Option ℕ) → x ≡ y → x ≡ Some a → y ≡ None → ⊥

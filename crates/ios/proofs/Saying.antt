@@ -82,7 +82,7 @@ body known z w ws s is e =
       on = subst (λ r. bodySays (Ok (p .0 .0, r)) ≡ Ok s) (t .rest) (p .2);
     }
 
-comment-text : (w : List ℕ) (ws : List (List ℕ)) → comment w ≡ true → PassedText (w ∷ ws)
+pub comment-text : (w : List ℕ) (ws : List (List ℕ)) → comment w ≡ true → PassedText (w ∷ ws)
 comment-text [] ws e = let k : _≡_ {A = ℕ} 0 1 = cc in absurd (omega arith)
 comment-text (b ∷ bs) ws e = subst (λ c. PassedText ((c ∷ bs) ∷ ws)) (sym (decides-eqb b 33 .0 e)) comment-line
 
