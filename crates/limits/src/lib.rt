@@ -3,3 +3,5 @@
 mod fitting;
 #[cfg(test)]
 mod reading;
+#[cfg(test)]
+mod reporting;

@@ -1,0 +1,5 @@
+pub mod Halves
+pub mod HeaderLines
+pub mod Answers
+pub mod Output
+pub mod Stands
