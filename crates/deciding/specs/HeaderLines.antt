@@ -1,10 +1,9 @@
 -- What a text line of the header part says: nothing, a header, or the column at which it is malformed. Assumes nothing.
-use mathlib.Core.Bool.{Bool, true, false, cond}
+use mathlib.Core.Bool.{Bool, true, cond}
 use mathlib.Core.List.{List, [], _∷_}
 use Prim.Native.Nat.{ℕ}
 use lib.Dec.{ltb}
 use lib.ListN.{length}
-use Rattle.std.specs.declared.result.Result.{Result}
 use Rattle.std.specs.declared.result.Result.the-variants.{Ok, Err}
 use Rattle.acl.specs.declared.header.Header.{Header}
 use Rattle.acl.specs.declared.refusal.Refusal.the-variants.{BadWord}

@@ -11,10 +11,9 @@ use Rattle.words.specs.Meaning.{AddressText}
 use Rattle.words.specs.Words.{Spanned, wordsAt, bytesOf}
 use Rattle.words.specs.Cursor.{placeBy}
 use Rattle.ios.specs.Grammar.{WordsText, PassedText, endsIn}
-use Rattle.deciding.specs.declared.header_line.HeaderLine.{HeaderLine}
 use Rattle.deciding.specs.declared.header_line.HeaderLine.the-variants.{Passed, Good, Bad}
 use Rattle.deciding.specs.Halves.{listPart, headerPart}
-use Rattle.deciding.specs.HeaderLines.{headerBy, headerLine}
+use Rattle.deciding.specs.HeaderLines.{headerLine}
 
 -- no text line is `=`
 abbrev pub NoMark : List (List ℕ) → Type 0

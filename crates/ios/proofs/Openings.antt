@@ -11,7 +11,7 @@ use Rattle.acl.specs.declared.refusal.Refusal.the-variants.{BadWord}
 use Rattle.words.specs.declared.part.Word.{Word}
 use Rattle.words.specs.Keywords.{named}
 use Rattle.words.specs.Words.{Spanned}
-use Rattle.words.specs.Cursor.{Rest, Peeks, wordShown, passed, stopAt, placeBy, stop}
+use Rattle.words.specs.Cursor.{Rest, Peeks, wordShown, passed, placeBy, stop}
 use Rattle.ios.specs.Parsing.{comment, saysBy, bodySays, listNumberOf}
 
 pub opens-list : (known : Option ℕ) (r : Rest) (ws : List Spanned) (w : Word) → Peeks ws (Some w)

@@ -3,7 +3,7 @@ use mathlib.Core.Path.{_≡_, refl, sym, ap, _∙_}
 use mathlib.Core.List.{List, [], _∷_, _++_, map}
 use Prim.Native.Nat.{ℕ, zero, suc, _+_, _-_, _<_, _≤_}
 use native.Mathlib.Omega.{arith}
-use native.Mathlib.Nat.{add-zero, zero-add}
+use native.Mathlib.Nat.{add-zero}
 use borrow.Author.Needs.{needs}
 use lib.ListN.{length, take, drop, set, take-append-drop}
 use Rattle.std.specs.declared.option.Option.{Option}
@@ -22,8 +22,8 @@ use Rattle.ios.specs.declared.state.State.{State}
 use Rattle.ios.specs.Entries.{EntryShape, entryShape, numbered}
 use Rattle.ios.specs.Parsing.{lineSays}
 use Rattle.ios.specs.Shown.{entrySome, saidOk}
-use Rattle.ios.specs.Reading.{Text, textBy, added, refused, taken, faultAt, scanBy, scanEntry, scan, textOf, numberOrNone, reading, countedBy, counted, over}
-use Rattle.ios.specs.Folding.{stepped, adds, Steps}
+use Rattle.ios.specs.Reading.{Text, textBy, added, refused, taken, faultAt, scanBy, scanEntry, scan, textOf, countedBy, counted, over}
+use Rattle.ios.specs.Folding.{stepped, Steps}
 
 abbrev pub stateOf : ℕ → Option ℕ → ℕ → State
 stateOf t n k = record { line = t; known = n; count = k }
@@ -86,36 +86,6 @@ pub record Counting (text : List ℕ) (s : State) (left : List ℕ) : Type 0 whe
   pub few : s .count ≤ 1024
   pub same : counted (textOf text) ≡ countedOn (s .count) (onFrom s left)
 
-pub counting-start : (text left : List ℕ) → left ≡ text → Counting text (stateOf 0 None 0) left
-counting-start text left e = record {
-  bound = omega (arith, ap length e);
-  few = omega arith;
-  same = ap (λ k. countedBy (textOf text .known) k (textOf text .fault)) (sym (zero-add (length (textOf text .lines)))) ∙ ap (λ l. countedOn 0 (onFrom (stateOf 0 None 0) l)) (sym e);
-}
-
-pub counting-err : (text : List ℕ) (before after : State) (left more bytes : List ℕ) (f : Fault)
-    → Counting text before left → textLines left ≡ bytes ∷ textLines more → Steps before after bytes (Err f) → Err f ≡ counted (textOf text)
-counting-err text before after left more bytes f h cut s = sym (h .same ∙ ap (countedOn (before .count)) (step-on before after left more bytes (Err f) cut s))
-
--- one line more before the rest
-pub counted-more : (k : ℕ) (s : Shape) (t : Text) → countedOn k (added s t) ≡ countedOn (k + 1) t
-counted-more k s t = ap (λ n. countedBy (t .known) n (t .fault)) (omega arith)
-
-counted-step : (k m : ℕ) (r : Option Entry) (t : Text) → m ≡ k + adds (Ok r) → countedOn k (stepped (Ok r) m t) ≡ countedOn m t
-counted-step k m None t e = ap (λ n. countedOn n t) (sym (e ∙ add-zero k))
-counted-step k m (Some x) t e = counted-more k (numbered m (entryShape x)) t ∙ ap (λ n. countedOn n t) (sym e)
-
-pub counting-step : (text : List ℕ) (before after : State) (left more bytes : List ℕ) (r : Option Entry)
-    → Counting text before left → textLines left ≡ bytes ∷ textLines more → length more < length left → Steps before after bytes (Ok r) → Counting text after more
-counting-step text before after left more bytes r h cut less s = record {
-  bound = omega (arith, h .bound, s .line);
-  few = s .few;
-  same = h .same ∙ ap (countedOn (before .count)) (step-on before after left more bytes (Ok r) cut s) ∙ counted-step (before .count) (after .count) r (onFrom after more) (s .count);
-}
-
-pub counting-end : (text : List ℕ) (s : State) (left : List ℕ) → Counting text s left → left ≡ [] → Ok (reading (numberOrNone (s .known)) (s .count)) ≡ counted (textOf text)
-counting-end text s left h e = sym (h .same ∙ ap (countedOn (s .count)) (none-on s left e) ∙ ap (λ n. Ok (reading (numberOrNone (s .known)) n)) (add-zero (s .count)))
-
 -- a line written at the end of the front leaves the rest to be written
 over-at : (m : List Line) (k : ℕ) (x : Line) (ss : List Shape) → k < length m
     → take k (map shape m) ++ over (shape x ∷ ss) (drop k (map shape m)) ≡ take (suc k) (map shape (set m k x)) ++ over ss (drop (suc k) (map shape (set m k x)))
@@ -130,14 +100,6 @@ pub record Filling (text : List ℕ) (old : List Shape) (room : ℕ) (s : State)
   pub fits : s .count + length (onFrom s left .lines) ≤ room
   pub so-far : over (textOf text .lines) old ≡ take (s .count) (map shape m) ++ over (onFrom s left .lines) (drop (s .count) (map shape m))
 
-pub filling-start : (text left : List ℕ) (m : List Line) → left ≡ text → length (textOf text .lines) ≤ length m → Filling text (map shape m) (length m) (stateOf 0 None 0) left m
-filling-start text left m e h = record {
-  bound = omega (arith, ap length e);
-  few = omega arith;
-  fits = omega (arith, ap (λ l. length (onFrom (stateOf 0 None 0) l .lines)) e);
-  so-far = ap (λ l. over (onFrom (stateOf 0 None 0) l .lines) (map shape m)) (sym e);
-}
-
 -- nothing more is written once the rest has no line
 stops : (text : List ℕ) (old : List Shape) (room : ℕ) (s : State) (left : List ℕ) (m : List Line) → Filling text old room s left m → onFrom s left .lines ≡ [] → map shape m ≡ over (textOf text .lines) old
 stops text old room s left m h e =
@@ -150,20 +112,6 @@ pub filling-err : (text : List ℕ) (old : List Shape) (room : ℕ) (before afte
     → Filling text old room before left m → textLines left ≡ bytes ∷ textLines more → Steps before after bytes (Err f) → map shape m ≡ over (textOf text .lines) old
 filling-err text old room before after left more bytes m f h cut s =
     stops text old room before left m h (ap (λ t. t .lines) (step-on before after left more bytes (Err f) cut s))
-
-pub filling-none : (text : List ℕ) (old : List Shape) (room : ℕ) (before after : State) (left more bytes : List ℕ) (m : List Line)
-    → Filling text old room before left m → textLines left ≡ bytes ∷ textLines more → length more < length left → Steps before after bytes (Ok None) → Filling text old room after more m
-filling-none text old room before after left more bytes m h cut less s =
-    let on : onFrom before left .lines ≡ onFrom after more .lines = ap (λ t. t .lines) (step-on before after left more bytes (Ok None) cut s) in
-    let same : after .count ≡ before .count = s .count ∙ add-zero (before .count) in
-    record {
-      bound = omega (arith, h .bound, s .line);
-      few = s .few;
-      fits = omega (arith, h .fits, ap length on, same);
-      so-far = h .so-far
-          ∙ ap (λ ls. take (before .count) (map shape m) ++ over ls (drop (before .count) (map shape m))) on
-          ∙ ap (λ k. take k (map shape m) ++ over (onFrom after more .lines) (drop k (map shape m))) (sym same);
-    }
 
 pub filling-some : (text : List ℕ) (old : List Shape) (room : ℕ) (before after : State) (left more bytes : List ℕ) (m : List Line) (e : Entry) (x : Line)
     → Filling text old room before left m → textLines left ≡ bytes ∷ textLines more → length more < length left → Steps before after bytes (Ok (Some e))

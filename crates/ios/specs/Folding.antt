@@ -11,7 +11,7 @@ use Rattle.ios.specs.declared.outcome.Fault.{Fault}
 use Rattle.ios.specs.declared.state.State.{State}
 use Rattle.ios.specs.Entries.{entryShape, numbered}
 use Rattle.ios.specs.Parsing.{lineSays}
-use Rattle.ios.specs.Reading.{Text, refused, added, scanBy, faultAt}
+use Rattle.ios.specs.Reading.{Text, refused, added, scanBy}
 
 -- what a text line says, before the rest of the text; k lines stand after it
 abbrev pub stepped : Result (Option Entry) Fault → ℕ → Text → Text

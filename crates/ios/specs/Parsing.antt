@@ -19,7 +19,6 @@ use Rattle.acl.specs.declared.terms.PortTest.the-variants.{Any as AnyPort, Eq, 
 use Rattle.acl.specs.Terms.{takesPorts}
 use Rattle.words.specs.declared.part.Stop.{Stop}
 use Rattle.words.specs.Keywords.{named}
-use Rattle.words.specs.Numbers.{numberIn}
 use Rattle.words.specs.Words.{Spanned}
 use Rattle.words.specs.Cursor.{Rest, restOf, beginsWithDigit, passed, place, stop, Step, onward, expectOf, valued, addressOf, numberOf}
 use Rattle.ios.specs.declared.family.Family.{Family}

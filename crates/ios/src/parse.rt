@@ -1,8 +1,7 @@
 ghost use mathlib.Core.Path.{_≡_};
 ghost use mathlib.Core.Bool.{true};
-ghost use Rattle.acl.specs.Terms.{ordered, portsAllowed};
 ghost use Rattle.words.specs.Cursor.{rest, handed, wordShown};
-ghost use Rattle.ios.specs.Entries.{entryShape, standardEntry, extendedEntry};
+ghost use Rattle.ios.specs.Entries.{entryShape, standardEntry};
 ghost use Rattle.ios.specs.Parsing.{standardOf, extendedOf, entryOf, bodySays, comment, listNumberOf, lineSays, says};
 ghost use Rattle.ios.specs.Shown.{entryOk, saidOk};
 use crate::entry::Entry;

@@ -5,7 +5,7 @@ ghost use Rattle.acl.specs.Shapes.{sideShape};
 ghost use Rattle.acl.specs.Terms.{ordered, takesPorts, portsAllowed};
 ghost use Rattle.words.specs.Cursor.{rest, handed};
 ghost use Rattle.ios.specs.Entries.{sideOf};
-ghost use Rattle.ios.specs.Parsing.{hostOf, wildcardOf, networkOf, closedBy, loneOf, sourceOf, portOf, rangeOf, testOf, portsOf};
+ghost use Rattle.ios.specs.Parsing.{hostOf, wildcardOf, networkOf, closedBy, sourceOf, portOf, rangeOf, testOf, portsOf};
 use crate::family::Network;
 use crate::terms::is;
 use crate::terms::next_is;

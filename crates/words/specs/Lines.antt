@@ -1,6 +1,6 @@
 -- The text lines of a text: each ends at byte 10, or at bytes 13 and 10, and the last may lack its end. Assumes nothing.
 use mathlib.Core.Path.{_≡_}
-use mathlib.Core.Bool.{Bool, true, false, cond}
+use mathlib.Core.Bool.{Bool, false, cond}
 use mathlib.Core.List.{List, [], _∷_}
 use Prim.Native.Nat.{ℕ, _-_, _≤_, _<_}
 use denote.Ref.{RefT}

@@ -7,7 +7,6 @@ use lib.Dec.{eqb}
 use lib.ListN.{length, drop}
 use Rattle.std.specs.declared.option.Option.{Option}
 use Rattle.std.specs.declared.option.Option.the-variants.{Some, None}
-use Rattle.words.specs.Numbers.{digit}
 use Rattle.words.specs.declared.part.Part.{Part}
 
 -- a word: its column, and its bytes

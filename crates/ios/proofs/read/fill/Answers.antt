@@ -1,4 +1,4 @@
-use mathlib.Core.Path.{_≡_, ap, subst}
+use mathlib.Core.Path.{subst}
 use Rattle.std.specs.declared.result.Result.the-variants.{Ok}
 use Rattle.words.specs.Lines.{left}
 use Rattle.ios.specs.Folding.{Steps}
