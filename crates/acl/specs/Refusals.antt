@@ -3,7 +3,7 @@ use Prim.Native.Nat.{ℕ}
 use Rattle.acl.specs.declared.refusal.Layer.{Layer}
 use Rattle.acl.specs.declared.refusal.Layer.the-variants.{Word, Line, List as WholeList}
 use Rattle.acl.specs.declared.refusal.Refusal.{Refusal}
-use Rattle.acl.specs.declared.refusal.Refusal.the-variants.{TooManyLines, ShortMemory, TooLong, BadWord, BadAddress, BadNumber, BackwardRange, OtherList}
+use Rattle.acl.specs.declared.refusal.Refusal.the-variants.{TooManyLines, ShortMemory, TooLong, BadWord, BadAddress, BadNumber, BackwardRange, OtherList, NotStandard}
 
 abbrev pub refusalNumber : Refusal → ℕ
 refusalNumber TooManyLines = 6
@@ -14,6 +14,7 @@ refusalNumber BadAddress = 12
 refusalNumber BadNumber = 13
 refusalNumber BackwardRange = 14
 refusalNumber OtherList = 15
+refusalNumber NotStandard = 16
 
 abbrev pub refusalLayer : Refusal → Layer
 refusalLayer TooManyLines = WholeList
@@ -24,3 +25,4 @@ refusalLayer BadAddress = Word
 refusalLayer BadNumber = Word
 refusalLayer BackwardRange = Line
 refusalLayer OtherList = WholeList
+refusalLayer NotStandard = WholeList

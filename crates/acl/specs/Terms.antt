@@ -48,6 +48,19 @@ ordered (Lt n) = true
 ordered (Gt n) = true
 ordered (Range a b) = leb a b
 
+-- a protocol has 8 bits, and a port 16
+abbrev pub protocolNarrow : Protocol → Bool
+protocolNarrow AnyProtocol = true
+protocolNarrow (Number n) = ltb n 256
+
+abbrev pub portsNarrow : PortTest → Bool
+portsNarrow Any = true
+portsNarrow (Eq n) = ltb n 65536
+portsNarrow (Neq n) = ltb n 65536
+portsNarrow (Lt n) = ltb n 65536
+portsNarrow (Gt n) = ltb n 65536
+portsNarrow (Range a b) = cond (ltb a 65536) (ltb b 65536) false
+
 -- only protocols 6 and 17 have ports
 abbrev pub takesPorts : Protocol → Bool
 takesPorts AnyProtocol = false

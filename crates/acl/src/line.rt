@@ -1,7 +1,7 @@
 ghost use mathlib.Core.Path.{_≡_};
 ghost use mathlib.Core.Bool.{true};
 ghost use Prim.Native.Nat.{_≤_};
-ghost use Rattle.acl.specs.Terms.{portsAllowed};
+ghost use Rattle.acl.specs.Terms.{portsAllowed, protocolNarrow};
 use crate::side::Side;
 use crate::side::SideDebug;
 use crate::side::SidePartialEq;
@@ -24,6 +24,7 @@ pub struct Line {
     pub destination: Side,
     ghost numbered: { 1 ≤ number },
     ghost few: { number ≤ 1024 },
+    ghost protocol_width: { protocolNarrow protocol ≡ true },
     ghost source_ports: { portsAllowed protocol (source .ports) ≡ true },
     ghost destination_ports: { portsAllowed protocol (destination .ports) ≡ true },
 }

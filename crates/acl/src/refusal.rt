@@ -6,7 +6,7 @@ ghost use Rattle.acl.specs.Refusals.{refusalNumber, refusalLayer};
 pub enum Refusal {
     // more than 1,024 lines
     TooManyLines,
-    // line memory too short
+    // line or text memory too short
     ShortMemory,
     // a text over 65,536 bytes, or a text line over 256
     TooLong,
@@ -20,6 +20,8 @@ pub enum Refusal {
     BackwardRange,
     // a list number unlike the text's first
     OtherList,
+    // a standard list number for a line whose protocol or destination is not any
+    NotStandard,
 }
 
 // Where a refused text is at fault: in a word, in a line, or in the list as a whole.
@@ -44,6 +46,7 @@ impl Refusal {
             Refusal::BadNumber => 13,
             Refusal::BackwardRange => 14,
             Refusal::OtherList => 15,
+            Refusal::NotStandard => 16,
         }
     }
 

@@ -1,7 +1,8 @@
 ghost use mathlib.Core.Path.{_≡_};
 ghost use mathlib.Core.Bool.{true};
+ghost use Prim.Native.Nat.{_^_, _<_};
 ghost use lib.Bits.{bitAnd};
-ghost use Rattle.acl.specs.Terms.{ordered};
+ghost use Rattle.acl.specs.Terms.{ordered, portsNarrow};
 use crate::terms::PortTest;
 use crate::terms::PortTestDebug;
 use crate::terms::PortTestPartialEq;
@@ -15,4 +16,7 @@ pub struct Side {
     pub ports: PortTest,
     ghost cleared: { bitAnd address wildcard ≡ 0 },
     ghost forward: { ordered ports ≡ true },
+    ghost address_width: { address < 2 ^ 32 },
+    ghost wildcard_width: { wildcard < 2 ^ 32 },
+    ghost ports_width: { portsNarrow ports ≡ true },
 }

@@ -3,64 +3,62 @@ use mathlib.Core.Path.{_≡_, refl, sym, subst, _∙_}
 use mathlib.Core.List.{List, [], _∷_, map}
 use Prim.Native.Nat.{ℕ, _^_, _<_, _≤_}
 use native.Mathlib.Omega.{arith}
-use Rattle.std.specs.declared.result.Result.the-variants.{Ok, Err}
+use Rattle.std.specs.declared.result.Result.the-variants.{Ok}
 use Rattle.std.specs.Written.{decimal}
 use Rattle.acl.specs.declared.header.Header.{Header}
-use Rattle.acl.specs.declared.refusal.Refusal.the-variants.{BadWord}
-use Rattle.words.specs.declared.part.Stop.{Stop}
+use Rattle.acl.specs.declared.refusal.Refusal.the-variants.{BadWord, BadNumber}
+use Rattle.words.specs.Numbers.{numberIn}
 use Rattle.words.specs.Words.{Spanned, bytesOf}
 use Rattle.words.specs.Meaning.{AddressText}
 use Rattle.words.specs.Cursor.{Rest, restBy, Step, onward, addressOf, numberOf}
-use Rattle.ios.proofs.Forms.{One, NumberText, Began}
+use Rattle.ios.proofs.Forms.{One, NumberText}
 use Rattle.ios.proofs.Steps.{ok-parts, then-on, Sound, Whole, bind-whole}
 use Rattle.ios.proofs.Sound.{number-sound, address-sound}
 use Rattle.ios.proofs.Complete.{nil-case, append-case, Takes, one-word, number-takes, address-takes}
-use Rattle.ios.proofs.Chains.{Good, Then, both, End, end, good-then, never, here, chain}
-use Rattle.ios.proofs.Began.{one, stop-column, least, number-began, good-address, address-began, good-end}
+use Rattle.ios.proofs.Chains.{Good, Then, both, End, end, good-then, never, Begins, AtFirst, first-begins, chain}
+use Rattle.ios.proofs.Began.{one, stop-column, word-first, least, good-address, address-begins, good-end}
 use Rattle.deciding.specs.HeaderLines.{headerBy, closed, headerOf}
 use Rattle.deciding.specs.Stands.{HeaderText}
-
--- where a step stops, the words before begin something of the form R
-abbrev Stops : {A : Type 0} → (Rest → Step A) → (List (List ℕ) → A → Type 0) → Type 0
-Stops step R = (z : ℕ) (ws : List Spanned) (t : Stop) → step (restBy z ws) ≡ Err t → Began R z ws (t .column)
 
 -- a step that takes just the words of the form R, whatever follows them
 record Part {A : Type 0} (step : Rest → Step A) (R : List (List ℕ) → A → Type 0) : Type 0 where
   sound : Sound step R
-  stops : Stops step R
+  begins : Begins step R
   good : Good R
   takes : (vs : List (List ℕ)) (a : A) (more : List Spanned) → R vs a → Takes step vs a more
 
 -- a step that takes all words, which have the form R
 pub record Every {A : Type 0} (step : Rest → Step A) (R : List (List ℕ) → A → Type 0) : Type 0 where
   pub whole : Whole step R
-  pub stops : Stops step R
+  pub begins : Begins step R
   pub good : Good R
   pub takes : (vs : List (List ℕ)) (a : A) → R vs a → (z : ℕ) (us : List Spanned) → map bytesOf us ≡ vs → step (restBy z us) ≡ Ok (a, restBy z [])
 
 address : Part addressOf (One AddressText)
 address = record {
   sound = address-sound;
-  stops = address-began;
+  begins = address-begins;
   good = good-address;
   takes = λ vs a more o z us e. one-word addressOf (o .word) a more (λ z c. address-takes (o .word) a z c more (o .text)) z us (e ∙ o .only);
 }
 
 number : (high : ℕ) → high < 2 ^ 64 → Part (numberOf 0 high) (One (NumberText 0 high))
 number high small = record {
-  sound = λ z ws n r. number-sound 0 high z ws n r small;
-  stops = λ z ws t. number-began 0 high z ws t (omega arith);
-  good = one _ 0 (least 0 high (omega arith));
+  sound = number-sound 0 high small;
+  begins = first-begins zero (word-first (numberIn 0 high) BadNumber);
+  good = zero;
   takes = λ vs n more o z us e. one-word (numberOf 0 high) (o .word) n more
       (λ z c. number-takes 0 high n z c (o .word) more small (o .text .bytes) (o .text .least) (o .text .most)) z us (e ∙ o .only);
-}
+} where
+  zero : Good (One (NumberText 0 high))
+  zero = one _ 0 (least 0 high (omega arith))
 
 -- one step, and then one that takes the other words
 joined : {A B : Type 0} {R : List (List ℕ) → A → Type 0} {S : A → List (List ℕ) → B → Type 0} (step : Rest → Step A) (f : A → Rest → Step B)
     → Part step R → ((a : A) → Every (f a) (S a)) → Every (λ r. onward (step r) f) (Then R S)
 joined {A} {B} {R} {S} step f p q = record {
   whole = bind-whole (Then R S) step f (p .sound) (λ a us o z ws b r e. both o (q a .whole z ws b r e));
-  stops = λ z ws t. chain z ws t (step (restBy z ws)) f (p .stops z ws t) (p .sound z ws) (λ _ a _. q a .good) (λ _ a _ left. q a .stops z left t);
+  begins = chain (p .begins) (p .sound) (λ _ a _. q a .good) (λ _ a _. q a .begins);
   good = good-then (p .good) (λ a. q a .good);
   takes = takes;
 } where
@@ -72,14 +70,14 @@ joined {A} {B} {R} {S} step f p q = record {
 
 -- the end of a header
 ending : (h : Header) → Every (λ r. closed h r (r .words)) (End h)
-ending h = record { whole = whole; stops = stops; good = good-end h; takes = takes } where
+ending h = record { whole = whole; begins = first-begins (good-end h) first; good = good-end h; takes = takes } where
   whole : Whole (λ r. closed h r (r .words)) (End h)
   whole z [] d r e = subst (End h []) (ok-parts h d (restBy z []) r e .0) end
   whole z (w ∷ ws) d r e = let k : _≡_ {A = ℕ} 0 1 = cc in absurd (omega arith)
 
-  stops : Stops (λ r. closed h r (r .words)) (End h)
-  stops z [] t e = never _ t e
-  stops z (w ∷ ws) t e = here z (w ∷ ws) _ (good-end h) (stop-column BadWord (w .column) t e)
+  first : AtFirst (λ r. closed h r (r .words))
+  first z [] t e = never _ t e
+  first z (w ∷ ws) t e = (stop-column BadWord (w .column) t e, λ more p x. never p _ (sym x))
 
   takes : (vs : List (List ℕ)) (d : Header) → End h vs d → (z : ℕ) (us : List Spanned) → map bytesOf us ≡ vs
       → closed h (restBy z us) us ≡ Ok (d, restBy z [])

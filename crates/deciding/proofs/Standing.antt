@@ -1,7 +1,7 @@
 -- The parts of the input and the header lines are what Stands says. Assumes nothing.
 use mathlib.Core.Path.{_≡_, refl, sym, ap, _∙_}
 use mathlib.Core.Bool.{Bool, true, false, cond}
-use mathlib.Core.List.{List, [], _∷_, map}
+use mathlib.Core.List.{List, [], _∷_, _++_, map, map-append}
 use Prim.Native.Nat.{ℕ, _≤_, _<_}
 use native.Mathlib.Omega.{arith}
 use lib.Dec.{ltb}
@@ -13,17 +13,20 @@ use Rattle.std.proofs.shelf.Tests.{false≢true, ltb-true, ltb-false, lt-ltb, l
 use Rattle.acl.specs.declared.header.Header.{Header}
 use Rattle.words.specs.declared.part.Stop.{Stop}
 use Rattle.words.specs.Numbers.{numberIn, beforeDot, andThen, addressIn}
-use Rattle.words.specs.Words.{Spanned, wordsAt, bytesOf}
+use Rattle.words.specs.Words.{Spanned, spanned, wordsAt, bytesOf}
 use Rattle.words.specs.Meaning.{AddressText}
 use Rattle.words.specs.Cursor.{Rest, restOf, Step}
 use Rattle.words.proofs.Addresses.{address-every}
 use Rattle.ios.specs.Parsing.{comment}
 use Rattle.ios.specs.Grammar.{WordsText, PassedText}
 use Rattle.ios.specs.Grammar.PassedText.{blank-line, comment-line}
+use Rattle.ios.specs.Stands.{upTo}
 use Rattle.ios.proofs.Texts.{words-only}
+use Rattle.ios.proofs.Forms.{headed}
 use Rattle.ios.proofs.Steps.{either}
 use Rattle.ios.proofs.Complete.{cons-case, nil-case}
 use Rattle.ios.proofs.Saying.{comment-text}
+use Rattle.ios.proofs.Began.{up-to}
 use Rattle.deciding.specs.declared.header_line.HeaderLine.{HeaderLine}
 use Rattle.deciding.specs.declared.header_line.HeaderLine.the-variants.{Passed, Good, Bad}
 use Rattle.deciding.specs.HeaderLines.{headerOf, passes, foundHeader, headerLine}
@@ -125,7 +128,7 @@ bad line c small e = ways line (Bad c) e
     (λ _ _ e. let k : _≡_ {A = ℕ} 0 1 = cc in absurd (omega arith))
     (λ _ e.
     let f = found-bad (headerOf (restOf line)) c e in
-    let b = header .stops (length line) (wordsAt line 0) (f .0) (f .1) in
+    let b = header .begins (length line) (wordsAt line 0) (f .0) (f .1) in
     record {
       before = b .before;
       after = b .after;
@@ -134,6 +137,11 @@ bad line c small e = ways line (Bad c) e
       more = b .more;
       header = b .value;
       good = form-text _ (b .value) (b .text);
+      worst = λ rest h t.
+          let others = map (spanned 0) rest in
+          let is : map bytesOf (b .before ++ headed (b .after) others) ≡ map bytesOf (b .before) ++ upTo (b .after) rest =
+          map-append bytesOf (b .before) _ ∙ ap (λ l. map bytesOf (b .before) ++ l) (up-to (b .after) rest) in
+          b .worst others _ (header .takes _ h (text-form _ h t) (length line) _ is);
     })
 
 pub report-stands : Report-stands

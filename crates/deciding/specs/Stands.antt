@@ -11,6 +11,7 @@ use Rattle.words.specs.Meaning.{AddressText}
 use Rattle.words.specs.Words.{Spanned, wordsAt, bytesOf}
 use Rattle.words.specs.Cursor.{placeBy}
 use Rattle.ios.specs.Grammar.{WordsText, PassedText, endsIn}
+use Rattle.ios.specs.Stands.{upTo}
 use Rattle.deciding.specs.declared.header_line.HeaderLine.the-variants.{Passed, Good, Bad}
 use Rattle.deciding.specs.Halves.{listPart, headerPart}
 use Rattle.deciding.specs.HeaderLines.{headerLine}
@@ -48,7 +49,7 @@ pub record HeaderText (ws : List (List ℕ)) (h : Header) : Type 0 where
   pub words : ws ≡ source ∷ (destination ∷ (decimal (h .protocol) ∷ (decimal (h .«source_port») ∷ (decimal (h .«destination_port») ∷ []))))
 
 -- a text line that is malformed at column c: the words before the one there, or all words where none stands there, are
--- the beginning of some header's words
+-- the beginning of some header's words, and with the word there, of none
 pub record BadAt (line : List ℕ) (c : ℕ) : Type 0 where
   pub before : List Spanned
   pub after : List Spanned
@@ -57,6 +58,7 @@ pub record BadAt (line : List ℕ) (c : ℕ) : Type 0 where
   pub more : List (List ℕ)
   pub header : Header
   pub good : HeaderText (map bytesOf before ++ more) header
+  pub worst : (rest : List (List ℕ)) (h : Header) → HeaderText (map bytesOf before ++ upTo after rest) h → ⊥
 
 -- the parts of the input are what they should be, and no other; a text line holds a header exactly when it has the form
 pub record Report-stands : Type 0 where

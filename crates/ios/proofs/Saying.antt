@@ -158,7 +158,8 @@ follows-agreed (Some k) n c f r h = cond-on (eqb k n) _ _ (eq-eqb k n h)
 family-range : (n : ℕ) (f : Family) → familyOf n ≡ Some f → (1 ≤ n) × (n ≤ 2699)
 family-range n f e = (grind (arith, tells), grind (arith, tells))
 
-list-number-takes : (known : Option ℕ) (n : ℕ) (f : Family) (w : List ℕ) (z c : ℕ) (us : List Spanned) → w ≡ decimal n → familyOf n ≡ Some f → Follows known n
+pub list-number-takes : (known : Option ℕ) (n : ℕ) (f : Family) (w : List ℕ) (z c : ℕ) (us : List Spanned)
+    → w ≡ decimal n → familyOf n ≡ Some f → Follows known n
     → listNumberOf known (restBy z (spanned c w ∷ us)) ≡ Ok (listNumber n f, restBy z us)
 list-number-takes known n f w z c us is family follows =
     let p = family-range n f family in

@@ -23,7 +23,7 @@ use Rattle.words.specs.Keywords.{named}
 use Rattle.words.specs.Numbers.{numberIn, addressIn}
 use Rattle.words.specs.Words.{Spanned, bytesOf}
 use Rattle.words.specs.Meaning.{AddressText}
-use Rattle.words.specs.Cursor.{Rest, restBy, afterFirst, place, onward, valued, addressOf, numberOf}
+use Rattle.words.specs.Cursor.{Rest, restBy, placeBy, place, Step, onward, valued, addressOf, numberOf}
 use Rattle.words.proofs.Decimal.{only}
 use Rattle.ios.specs.declared.family.Family.{Family}
 use Rattle.ios.specs.declared.family.Family.the-variants.{Standard, Extended}
@@ -41,19 +41,19 @@ use Rattle.ios.specs.Grammar.SourceText.{side, lone}
 use Rattle.ios.specs.Grammar.PortsText.{no-test, eq, neq, lt, gt, range}
 use Rattle.ios.specs.Grammar.LogText.{no-log, logged}
 use Rattle.ios.specs.Grammar.EntryText.{standard, extended}
-use Rattle.ios.proofs.Forms.{One, NumberText, Took}
+use Rattle.ios.proofs.Forms.{One, NumberText, headed}
 use Rattle.words.proofs.Addresses.{address-only}
-use Rattle.ios.proofs.Steps.{ok-parts, onward-ok, valued-ok, named-is, Sound, done, bind, worded, of-one, either, keyed, Whole, bind-whole, close-whole}
+use Rattle.ios.proofs.Steps.{ok-parts, onward-ok, valued-ok, named-is, cond-on, Sound, digit-looks, closed-looks, place-looks, took-as, done, bind, worded}
+use Rattle.ios.proofs.Steps.{of-one, either, choose, keyed, Whole, bind-whole, close-whole}
 use Rattle.ios.proofs.Stages.{standardLog, extendedLog, destinationPorts, destination, sourcePorts, source}
 
-pub number-sound : (low high z : ℕ) (ws : List Spanned) (n : ℕ) (r : Rest) → high < 2 ^ 64 → numberOf low high (restBy z ws) ≡ Ok (n, r)
-    → Took (One (NumberText low high)) z ws n r
-number-sound low high z ws n r h e =
+pub number-sound : (low high : ℕ) → high < 2 ^ 64 → Sound (numberOf low high) (One (NumberText low high))
+number-sound low high h =
     worded (NumberText low high) (numberIn low high) BadNumber
-    (λ w m is. let p = only low high w m h is in record { bytes = p .0; least = p .1; most = p .2 }) z ws n r e
+    (λ w m is. let p = only low high w m h is in record { bytes = p .0; least = p .1; most = p .2 })
 
-pub address-sound : (z : ℕ) (ws : List Spanned) (a : ℕ) (r : Rest) → addressOf (restBy z ws) ≡ Ok (a, r) → Took (One AddressText) z ws a r
-address-sound z ws a r e = worded AddressText addressIn BadAddress address-only z ws a r e
+pub address-sound : Sound addressOf (One AddressText)
+address-sound = worded AddressText addressIn BadAddress address-only
 
 -- a word that has the value v if it is k, or else the value o
 by-name : {A : Type 0} (R : List ℕ → A → Type 0) (w k : List ℕ) (v a : A) (o : Option A)
@@ -64,8 +64,8 @@ by-name R w k v a o e this other =
 no-value : {A : Type 0} (a : A) (P : Type 0) → None ≡ Some a → P
 no-value a P e = let k : _≡_ {A = ℕ} 0 1 = cc in absurd (omega arith)
 
-pub action-sound : (z : ℕ) (ws : List Spanned) (a : Action) (r : Rest) → actionOf (restBy z ws) ≡ Ok (a, r) → Took (One ActionText) z ws a r
-action-sound z ws a r e = worded ActionText actionNamed BadWord named-action z ws a r e where
+pub action-sound : Sound actionOf (One ActionText)
+action-sound = worded ActionText actionNamed BadWord named-action where
   named-action : (w : List ℕ) (a : Action) → actionNamed w ≡ Some a → ActionText w a
   named-action w a e =
       by-name ActionText w (codes "permit") Permit a _ e permit (λ e.
@@ -83,12 +83,11 @@ named-protocol w p e =
 one-number : (n : ℕ) (us : List (List ℕ)) → One (NumberText 0 255) us n → One ProtocolText (us ++ []) (Number n)
 one-number n us o = of-one (λ us. One ProtocolText (us ++ []) (Number n)) us o (λ w t. record { word = w; only = refl; text = number (t .bytes) (t .most) })
 
-pub protocol-sound : (z : ℕ) (ws : List Spanned) (p : Protocol) (r : Rest) → protocolOf (restBy z ws) ≡ Ok (p, r) → Took (One ProtocolText) z ws p r
-protocol-sound z ws p r e =
-    either (digitBy ws) _ _ _ e
-    (λ _. bind (numberOf 0 255) (λ n more. Ok (Number n, more)) (λ z ws n r. number-sound 0 255 z ws n r (omega arith))
+pub protocol-sound : Sound protocolOf (One ProtocolText)
+protocol-sound = choose digitBy digit-looks
+    (λ z ws p r _. bind (numberOf 0 255) (λ n more. Ok (Number n, more)) (number-sound 0 255 (omega arith))
     (λ n us o. done (Number n) (one-number n us o)) z ws p r)
-    (λ _. worded ProtocolText protocolNamed BadWord named-protocol z ws p r)
+    (worded ProtocolText protocolNamed BadWord named-protocol)
 
 host-sound : Sound hostOf (λ us n. NetworkText (codes "host" ∷ us) n)
 host-sound = bind addressOf (λ a more. Ok (network a 0, more)) address-sound
@@ -102,28 +101,24 @@ wildcard-sound a us o = bind addressOf (λ m more. Ok (network a m, more)) addre
     (λ w t. of-one (λ vs. NetworkText (w ∷ (vs ++ [])) (network a m)) vs p
     (λ v u. pair t u))))
 
-pub network-sound : (z : ℕ) (ws : List Spanned) (n : Network) (r : Rest) → networkOf (restBy z ws) ≡ Ok (n, r) → Took NetworkText z ws n r
-network-sound z ws n r e =
-    keyed (codes "any") z ws n r _ _ e (done everywhere (any refl) z (afterFirst ws) n r) (λ e.
-    keyed (codes "host") z ws n r _ _ e (host-sound z (afterFirst ws) n r)
-    (bind addressOf wildcardOf address-sound wildcard-sound z ws n r))
+pub network-sound : Sound networkOf NetworkText
+network-sound = keyed (codes "any") (done everywhere (any refl)) (keyed (codes "host") host-sound (bind addressOf wildcardOf address-sound wildcard-sound))
 
 -- a source that has a network's form
-as-side : {z : ℕ} {ws : List Spanned} {n : Network} {r : Rest} (us : List (List ℕ))
-    → Took (λ vs n. NetworkText (us ++ vs) n) z ws n r → Took (λ vs n. SourceText (us ++ vs) n) z ws n r
-as-side us t = record { used = t .used; left = t .left; split = t .split; rest = t .rest; text = side (t .text) }
+as-side : {step : Rest → Step Network} (us : List (List ℕ)) → Sound step (λ vs n. NetworkText (us ++ vs) n) → Sound step (λ vs n. SourceText (us ++ vs) n)
+as-side us sound z ws n r e =
+    let t = sound z ws n r e in
+    record { used = t .used; left = t .left; split = t .split; rest = t .rest; text = side (t .text); same = t .same }
 
 lone-sound : (a : ℕ) (us : List (List ℕ)) → One AddressText us a → Sound (loneOf a) (λ vs n. SourceText (us ++ vs) n)
-lone-sound a us o z ws n r e =
-    either (closedBy ws) _ _ _ e
-    (λ _. done (network a 0) (of-one (λ us. SourceText (us ++ []) (network a 0)) us o (λ w t. lone t)) z ws n r)
-    (λ _ e. as-side us (wildcard-sound a us o z ws n r e))
+lone-sound a us o = choose closedBy closed-looks
+    (λ z ws n r _. done (network a 0) (of-one (λ us. SourceText (us ++ []) (network a 0)) us o (λ w t. lone t)) z ws n r)
+    (as-side us (wildcard-sound a us o))
 
-pub source-sound : (z : ℕ) (ws : List Spanned) (n : Network) (r : Rest) → sourceOf (restBy z ws) ≡ Ok (n, r) → Took SourceText z ws n r
-source-sound z ws n r e =
-    keyed (codes "any") z ws n r _ _ e (done everywhere (side (any refl)) z (afterFirst ws) n r) (λ e.
-    keyed (codes "host") z ws n r _ _ e (λ e. as-side (codes "host" ∷ []) (host-sound z (afterFirst ws) n r e))
-    (bind addressOf loneOf address-sound lone-sound z ws n r))
+pub source-sound : Sound sourceOf SourceText
+source-sound =
+    keyed (codes "any") (done everywhere (side (any refl)))
+    (keyed (codes "host") (as-side (codes "host" ∷ []) host-sound) (bind addressOf loneOf address-sound lone-sound))
 
 port-sound : Sound portOf (One PortText)
 port-sound = worded PortText (numberIn 0 65535) BadNumber
@@ -135,25 +130,34 @@ tested : (k : List ℕ) (test : ℕ → PortTest) → ((w : List ℕ) (n : ℕ) 
 tested k test make = bind portOf (λ n more. Ok (test n, more)) port-sound
     (λ n us o. done (test n) (of-one (λ us. PortsText (k ∷ (us ++ [])) (test n)) us o (λ w t. make w n t)))
 
+-- the second port of a range, not below the first
+upper-sound : (a : ℕ) (us : List (List ℕ)) → One PortText us a
+    → Sound (λ more. onward (portOf more) (λ b after. forwardRange a b (place more) after)) (λ vs t. PortsText (codes "range" ∷ (us ++ vs)) t)
+upper-sound a us o z ws t r e =
+    took-as (from (placeBy z ws)) (λ more. onward (portOf more) (λ b after. forwardRange a b (place more) after)) z ws t r
+    (sound (placeBy z ws) z ws t r e) (λ more. ap (λ c. from c (restBy z (headed ws more))) (place-looks z ws more)) where
+      from : ℕ → Rest → Step PortTest
+      from c more = onward (portOf more) (λ b after. forwardRange a b c after)
+
+      sound : (c : ℕ) → Sound (from c) (λ vs t. PortsText (codes "range" ∷ (us ++ vs)) t)
+      sound c = bind portOf (λ b after. forwardRange a b c after) port-sound
+          (λ b vs p. choose (λ _. leb a b) (λ _ _. refl)
+          (λ z ws t r le. done (Range a b)
+          (of-one (λ us. PortsText (codes "range" ∷ (us ++ (vs ++ []))) (Range a b)) us o
+          (λ w t. of-one (λ vs. PortsText (codes "range" ∷ (w ∷ (vs ++ []))) (Range a b)) vs p
+          (λ v u. range refl t u (leb-true a b le)))) z ws t r)
+          (λ _ _ _ _ e. let k : _≡_ {A = ℕ} 0 1 = cc in absurd (omega arith)))
+
 range-sound : Sound rangeOf (λ us t. PortsText (codes "range" ∷ us) t)
-range-sound = bind portOf (λ a more. onward (portOf more) (λ b after. forwardRange a b (place more) after)) port-sound
-    (λ a us o z ws. bind portOf (λ b after. forwardRange a b (place (restBy z ws)) after) port-sound
-    (λ b vs p z′ ws′ t r e. either (leb a b) _ _ _ e
-    (λ le. done (Range a b)
-    (of-one (λ us. PortsText (codes "range" ∷ (us ++ (vs ++ []))) (Range a b)) us o
-    (λ w t. of-one (λ vs. PortsText (codes "range" ∷ (w ∷ (vs ++ []))) (Range a b)) vs p
-    (λ v u. range refl t u (leb-true a b le)))) z′ ws′ t r)
-    (λ _ e. let k : _≡_ {A = ℕ} 0 1 = cc in absurd (omega arith)))
-    z ws)
+range-sound = bind portOf (λ a more. onward (portOf more) (λ b after. forwardRange a b (place more) after)) port-sound upper-sound
 
 test-sound : Sound testOf PortsText
-test-sound z ws t r e =
-    keyed (codes "eq") z ws t r _ _ e (tested (codes "eq") Eq (λ w n p. eq refl p) z (afterFirst ws) t r) (λ e.
-    keyed (codes "neq") z ws t r _ _ e (tested (codes "neq") Neq (λ w n p. neq refl p) z (afterFirst ws) t r) (λ e.
-    keyed (codes "lt") z ws t r _ _ e (tested (codes "lt") Lt (λ w n p. lt refl p) z (afterFirst ws) t r) (λ e.
-    keyed (codes "gt") z ws t r _ _ e (tested (codes "gt") Gt (λ w n p. gt refl p) z (afterFirst ws) t r) (λ e.
-    keyed (codes "range") z ws t r _ _ e (range-sound z (afterFirst ws) t r)
-    (done AnyPort no-test z ws t r)))))
+test-sound =
+    keyed (codes "eq") (tested (codes "eq") Eq (λ w n p. eq refl p))
+    (keyed (codes "neq") (tested (codes "neq") Neq (λ w n p. neq refl p))
+    (keyed (codes "lt") (tested (codes "lt") Lt (λ w n p. lt refl p))
+    (keyed (codes "gt") (tested (codes "gt") Gt (λ w n p. gt refl p))
+    (keyed (codes "range") range-sound (done AnyPort no-test)))))
 
 -- a port test that stands beside the protocol
 pub record AllowedText (p : Protocol) (us : List (List ℕ)) (t : PortTest) : Type 0 where
@@ -164,21 +168,21 @@ always : (b : Bool) → cond b true true ≡ true
 always true = refl
 always false = refl
 
-pub ports-sound : (p : Protocol) (z : ℕ) (ws : List Spanned) (t : PortTest) (r : Rest) → portsOf p (restBy z ws) ≡ Ok (t, r) → Took (AllowedText p) z ws t r
-ports-sound p z ws t r e =
-    either (takesPorts p) _ _ _ e
-    (λ takes e. let u = test-sound z ws t r e in
+pub ports-sound : (p : Protocol) → Sound (portsOf p) (AllowedText p)
+ports-sound p = choose (λ _. takesPorts p) (λ _ _. refl)
+    (λ z ws t r takes e. let u = test-sound z ws t r e in
     record {
       used = u .used;
       left = u .left;
       split = u .split;
       rest = u .rest;
       text = record { test = u .text; allowed = ap (λ b. cond (eqb (portCase t .number) 0) true b) takes ∙ always _ };
+      same = u .same;
     })
-    (λ _. done AnyPort (record { test = no-test; allowed = refl }) z ws t r)
+    (done AnyPort (record { test = no-test; allowed = refl }))
 
-pub log-sound : (z : ℕ) (ws : List Spanned) (g : Bool) (r : Rest) → logOf (restBy z ws) ≡ Ok (g, r) → Took LogText z ws g r
-log-sound z ws g r e = keyed (codes "log") z ws g r _ _ e (done true (logged refl) z (afterFirst ws) g r) (done false no-log z ws g r)
+pub log-sound : Sound logOf LogText
+log-sound = keyed (codes "log") (done true (logged refl)) (done false no-log)
 
 -- the words of a list number, in the list that is known
 pub record ListNumberText (known : Option ℕ) (w : List ℕ) (l : ListNumber) : Type 0 where
@@ -186,24 +190,28 @@ pub record ListNumberText (known : Option ℕ) (w : List ℕ) (l : ListNumber) :
   pub family : familyOf (l .number) ≡ Some (l .family)
   pub follows : Follows known (l .number)
 
-agreed-ok : (known : Option ℕ) (c : ℕ) (l m : ListNumber) (r s : Rest) → agreed known c l r ≡ Ok (m, s) → Follows known (l .number) × (l ≡ m) × (r ≡ s)
-agreed-ok None c l m r s e = let p = ok-parts l m r s e in (tt, p .0, p .1)
+-- a list number that agrees does so whatever is left
+agreed-ok : (known : Option ℕ) (c : ℕ) (l m : ListNumber) (r s : Rest) → agreed known c l r ≡ Ok (m, s)
+    → Follows known (l .number) × (l ≡ m) × (r ≡ s) × ((q : Rest) → agreed known c l q ≡ Ok (m, q))
+agreed-ok None c l m r s e = let p = ok-parts l m r s e in (tt, p .0, p .1, λ q. ap (λ x. Ok (x, q)) (p .0))
 agreed-ok (Some n) c l m r s e = either (eqb n (l .number)) _ _ _ e
-    (λ is e. let p = ok-parts l m r s e in (decides-eqb n (l .number) .0 is, p .0, p .1))
+    (λ is e. let p = ok-parts l m r s e in
+    (decides-eqb n (l .number) .0 is, p .0, p .1, λ q. cond-on (eqb n (l .number)) _ _ is ∙ ap (λ x. Ok (x, q)) (p .0)))
     (λ _ e. let k : _≡_ {A = ℕ} 0 1 = cc in absurd (omega arith))
 
-pub list-number-sound : (known : Option ℕ) (z : ℕ) (ws : List Spanned) (l : ListNumber) (r : Rest) → listNumberOf known (restBy z ws) ≡ Ok (l, r)
-    → Took (One (ListNumberText known)) z ws l r
-list-number-sound known z ws =
-    bind (numberOf 1 2699) (λ n more. onward (valued (familyOf n) BadNumber c more) (λ f more. agreed known c (listNumber n f) more))
-    (λ z ws n r. number-sound 1 2699 z ws n r (omega arith)) rest z ws where
-      c : ℕ
-      c = place (restBy z ws)
+pub list-number-sound : (known : Option ℕ) → Sound (listNumberOf known) (One (ListNumberText known))
+list-number-sound known z ws l r e =
+    took-as (from (placeBy z ws)) (listNumberOf known) z ws l r
+    (bind (numberOf 1 2699) (family (placeBy z ws)) (number-sound 1 2699 (omega arith)) (rest (placeBy z ws)) z ws l r e)
+    (λ more. ap (λ c. from c (restBy z (headed ws more))) (place-looks z ws more)) where
+      family : ℕ → ℕ → Rest → Step ListNumber
+      family c n more = onward (valued (familyOf n) BadNumber c more) (λ f more. agreed known c (listNumber n f) more)
 
-      rest : (n : ℕ) (us : List (List ℕ)) → One (NumberText 1 2699) us n
-          → Sound (λ more. onward (valued (familyOf n) BadNumber c more) (λ f more. agreed known c (listNumber n f) more))
-          (λ vs l. One (ListNumberText known) (us ++ vs) l)
-      rest n us o z ws l r e =
+      from : ℕ → Rest → Step ListNumber
+      from c r = onward (numberOf 1 2699 r) (family c)
+
+      rest : (c n : ℕ) (us : List (List ℕ)) → One (NumberText 1 2699) us n → Sound (family c n) (λ vs l. One (ListNumberText known) (us ++ vs) l)
+      rest c n us o z ws l r e =
           let p = onward-ok (valued (familyOf n) BadNumber c (restBy z ws)) (λ f more. agreed known c (listNumber n f) more) (l, r) e in
           let f = p .0 .0 in
           let v = valued-ok (familyOf n) BadNumber c (restBy z ws) f (p .0 .1) (p .1) in
@@ -216,6 +224,8 @@ list-number-sound known z ws =
             text = subst (One (ListNumberText known) (us ++ [])) (a .1)
                 (of-one (λ us. One (ListNumberText known) (us ++ []) (listNumber n f)) us o
                 (λ w t. record { word = w; only = refl; text = record { number = t; family = v .0; follows = a .0 } }));
+            same = λ more. ap (λ o. onward (valued o BadNumber c (restBy z (headed ws more))) (λ f more. agreed known c (listNumber n f) more)) (v .0)
+                ∙ a .3 (restBy z (headed ws more));
           }
 
 -- the end of a line, after its last part but the log

@@ -202,6 +202,7 @@ stopped-here t known l ls s k h w = go (ltb 256 (length l)) h where
           entry = b .entry;
           follows = b .follows;
           good = b .good;
+          worst = b .worst;
         };
       }
 

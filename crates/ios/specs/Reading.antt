@@ -85,8 +85,8 @@ roomFor room (Ok r) = cond (leb (r .count) room) (Ok r) (Err (faultAt ShortMemor
 abbrev pub readOf : List ℕ → ℕ → Result Reading Fault
 readOf bs room = cond (leb (length bs) 65536) (roomFor room (counted (textOf bs))) (Err (faultAt TooLong 0 0))
 
--- new lines over the front of the old ones
-abbrev pub over : List Shape → List Shape → List Shape
+-- what is new over the front of what was there
+abbrev pub over : {A : Type 0} → List A → List A → List A
 over [] old = old
 over (s ∷ ss) [] = []
 over (s ∷ ss) (o ∷ old) = s ∷ over ss old

@@ -1,14 +1,14 @@
 -- What reading owes to the grammar. Assumes nothing.
 use mathlib.Core.Path.{_≡_}
 use mathlib.Core.Bool.{Bool, true, false}
-use mathlib.Core.List.{List, _∷_, _++_, map}
+use mathlib.Core.List.{List, [], _∷_, _++_, map}
 use Prim.Native.Nat.{ℕ, _+_, _≤_}
 use lib.ListN.{length}
 use Rattle.std.specs.declared.option.Option.{Option}
 use Rattle.std.specs.declared.option.Option.the-variants.{None}
 use Rattle.std.specs.declared.result.Result.the-variants.{Ok, Err}
 use Rattle.acl.specs.declared.refusal.Refusal.{Refusal}
-use Rattle.acl.specs.declared.refusal.Refusal.the-variants.{TooManyLines, ShortMemory, TooLong, BadWord, BadAddress, BadNumber, BackwardRange, OtherList}
+use Rattle.acl.specs.declared.refusal.Refusal.the-variants.{TooManyLines, ShortMemory, TooLong, BadWord, BadAddress, BadNumber, BackwardRange, OtherList, NotStandard}
 use Rattle.acl.specs.Shapes.{Shape}
 use Rattle.words.specs.Words.{Spanned, wordsAt, bytesOf}
 use Rattle.words.specs.Cursor.{placeBy}
@@ -28,9 +28,15 @@ atWord BadAddress = true
 atWord BadNumber = true
 atWord BackwardRange = true
 atWord OtherList = true
+atWord NotStandard = false
+
+-- the words up to and with the one at fault, or all words where one is missing, and then others
+abbrev pub upTo : List Spanned → List (List ℕ) → List (List ℕ)
+upTo [] more = []
+upTo (w ∷ ws) more = bytesOf w ∷ more
 
 -- a text line refused at column c: the words before the one there, or all words where none stands there, are the
--- beginning of some good line under the list number that is known
+-- beginning of some good line under the list number that is known, and with the word there, of none
 pub record Beginning (known : Option ℕ) (line : List ℕ) (c : ℕ) : Type 0 where
   pub before : List Spanned
   pub after : List Spanned
@@ -41,6 +47,7 @@ pub record Beginning (known : Option ℕ) (line : List ℕ) (c : ℕ) : Type 0 w
   pub entry : EntryShape
   pub follows : Follows known number
   pub good : LineText number (map bytesOf before ++ more) entry
+  pub worst : (rest : List (List ℕ)) (n : ℕ) (e : EntryShape) → Follows known n → LineText n (map bytesOf before ++ upTo after rest) e → ⊥
 
 -- a text refused at a word: the text lines before are good, and the refused one has a good beginning
 pub record RefusedAt (bs : List ℕ) (f : Fault) : Type 0 where

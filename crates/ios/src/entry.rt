@@ -1,6 +1,6 @@
 ghost use mathlib.Core.Path.{_≡_};
 ghost use mathlib.Core.Bool.{true};
-ghost use Rattle.acl.specs.Terms.{portsAllowed};
+ghost use Rattle.acl.specs.Terms.{portsAllowed, protocolNarrow};
 use acl::side::Side;
 use acl::terms::Action;
 use acl::terms::Protocol;
@@ -13,6 +13,7 @@ pub struct Entry {
     pub log: bool,
     pub source: Side,
     pub destination: Side,
+    ghost protocol_width: { protocolNarrow protocol ≡ true },
     ghost source_ports: { portsAllowed protocol (source .ports) ≡ true },
     ghost destination_ports: { portsAllowed protocol (destination .ports) ≡ true },
 }

@@ -2,7 +2,7 @@ ghost use mathlib.Core.Path.{_≡_};
 ghost use mathlib.Core.Bool.{true};
 ghost use Rattle.std.specs.Results.{Cases};
 ghost use Rattle.acl.specs.Shapes.{sideShape};
-ghost use Rattle.acl.specs.Terms.{ordered, takesPorts, portsAllowed};
+ghost use Rattle.acl.specs.Terms.{ordered, portsNarrow, takesPorts, portsAllowed};
 ghost use Rattle.words.specs.Cursor.{rest, handed};
 ghost use Rattle.ios.specs.Entries.{sideOf};
 ghost use Rattle.ios.specs.Parsing.{hostOf, wildcardOf, networkOf, closedBy, sourceOf, portOf, rangeOf, testOf, portsOf};
@@ -98,6 +98,7 @@ fn port(words: &mut Words<'_>) -> Result<u16, Stop>
 fn range(words: &mut Words<'_>) -> Result<PortTest, Stop>
     ensures value { λ r. ⌜ handed r (rest (now (words .exit))) ≡ rangeOf (rest (now (words .entry))) ⌝ }
     ensures forward { λ r. ⌜ Cases r (λ t. ordered t ≡ true) (λ _. Unit {0}) ⌝ }
+    ensures narrow { λ r. ⌜ Cases r (λ t. portsNarrow t ≡ true) (λ _. Unit {0}) ⌝ }
 {
     let first = port(words)?;
     let column = words.place();
@@ -115,6 +116,7 @@ fn range(words: &mut Words<'_>) -> Result<PortTest, Stop>
 fn test(words: &mut Words<'_>) -> Result<PortTest, Stop>
     ensures value { λ r. ⌜ handed r (rest (now (words .exit))) ≡ testOf (rest (now (words .entry))) ⌝ }
     ensures forward { λ r. ⌜ Cases r (λ t. ordered t ≡ true) (λ _. Unit {0}) ⌝ }
+    ensures narrow { λ r. ⌜ Cases r (λ t. portsNarrow t ≡ true) (λ _. Unit {0}) ⌝ }
 {
     match words.peek() {
         Some(word) if is(word, b"eq") => {
@@ -154,6 +156,7 @@ fn takes_ports(protocol: Protocol) -> bool
 pub(crate) fn ports(words: &mut Words<'_>, protocol: Protocol) -> Result<PortTest, Stop>
     ensures value { λ r. ⌜ handed r (rest (now (words .exit))) ≡ portsOf protocol (rest (now (words .entry))) ⌝ }
     ensures forward { λ r. ⌜ Cases r (λ t. ordered t ≡ true) (λ _. Unit {0}) ⌝ }
+    ensures narrow { λ r. ⌜ Cases r (λ t. portsNarrow t ≡ true) (λ _. Unit {0}) ⌝ }
     ensures allowed { λ r. ⌜ Cases r (λ t. portsAllowed protocol t ≡ true) (λ _. Unit {0}) ⌝ }
 {
     if !takes_ports(protocol) {
@@ -164,7 +167,7 @@ pub(crate) fn ports(words: &mut Words<'_>, protocol: Protocol) -> Result<PortTes
 
 // A side of a line, with the address bits under the wildcard cleared.
 pub(crate) fn side(network: Network, ports: PortTest) -> Side
-    requires { ⌜ ordered ports ≡ true ⌝ }
+    requires { ⌜ ordered ports ≡ true ⌝ ∗ ⌜ portsNarrow ports ≡ true ⌝ }
     ensures { λ r. ⌜ sideShape r ≡ sideOf network ports ⌝ }
 {
     let Network { address, wildcard } = network;

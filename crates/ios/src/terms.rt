@@ -1,7 +1,10 @@
 ghost use mathlib.Core.Path.{_≡_};
+ghost use mathlib.Core.Bool.{true};
+ghost use Rattle.std.specs.Results.{Cases};
+ghost use Rattle.acl.specs.Terms.{protocolNarrow};
 ghost use Rattle.words.specs.Keywords.{named};
 ghost use Rattle.words.specs.Cursor.{rest, handed, wordPart, wordShown, expectOf};
-ghost use Rattle.ios.specs.Parsing.{nextIs, actionNamed, actionOf, protocolNamed, protocolOf, familyOf, listNumberOf, logOf, nextDigit};
+ghost use Rattle.ios.specs.Parsing.{nextIs, actionNamed, actionOf, protocolNamed, protocolOf, listNumberOf, logOf, nextDigit};
 ghost use Rattle.ios.specs.Shown.{shownOk};
 ghost use Rattle.std.specs.declared.result.Result.the-variants.{Ok};
 use crate::family::Family;
@@ -103,7 +106,8 @@ fn next_digit(words: &Words<'_>) -> bool
 
 // A protocol by name, or by number where the word begins with a digit.
 pub(crate) fn protocol(words: &mut Words<'_>) -> Result<Protocol, Stop>
-    ensures { λ r. ⌜ handed r (rest (now (words .exit))) ≡ protocolOf (rest (now (words .entry))) ⌝ }
+    ensures value { λ r. ⌜ handed r (rest (now (words .exit))) ≡ protocolOf (rest (now (words .entry))) ⌝ }
+    ensures narrow { λ r. ⌜ Cases r (λ p. protocolNarrow p ≡ true) (λ _. Unit {0}) ⌝ }
 {
     if next_digit(words) {
         let n = words.number(0, 255)?;
@@ -130,24 +134,13 @@ pub(crate) fn log(words: &mut Words<'_>) -> bool
     found
 }
 
-// The form of a list's lines, told by the range in which its number lies.
-fn family(number: u16) -> Option<Family>
-    ensures { λ r. ⌜ r ≡ familyOf number ⌝ }
-{
-    match number {
-        1..=99 | 1300..=1999 => Some(Family::Standard),
-        100..=199 | 2000..=2699 => Some(Family::Extended),
-        _ => None,
-    }
-}
-
 // The list number, which has to be the one that stood before, if one did.
 pub(crate) fn list_number(words: &mut Words<'_>, known: Option<u16>) -> Result<ListNumber, Stop>
     ensures { λ r. ⌜ handed r (rest (now (words .exit))) ≡ listNumberOf known (rest (now (words .entry))) ⌝ }
 {
     let column = words.place();
     let number = words.number(1, 2699)?;
-    let Some(family) = family(number) else {
+    let Some(family) = Family::of(number) else {
         return Err(Stop {
             refusal: Refusal::BadNumber,
             column,
