@@ -12,10 +12,10 @@ use Rattle.std.proofs.shelf.Ways.{same-from-decides, decides-eqb, decides-like,
 use Rattle.acl.specs.Bits.{bit, allBelow, alike}
 
 -- the complement of w among the numbers below p * 2: its upper bits, and its lowest
-half-not : (p w : ℕ) → w < p * 2 → (p * 2 - 1 - w) / 2 ≡ p - 1 - w / 2
+pub half-not : (p w : ℕ) → w < p * 2 → (p * 2 - 1 - w) / 2 ≡ p - 1 - w / 2
 half-not p w h = omega arith
 
-odd-not : (p w : ℕ) → w < p * 2 → (p * 2 - 1 - w) % 2 ≡ 1 - w % 2
+pub odd-not : (p w : ℕ) → w < p * 2 → (p * 2 - 1 - w) % 2 ≡ 1 - w % 2
 odd-not p w h = omega arith
 
 -- what is cleared under the wildcard has no bit in common with it

@@ -1,39 +1,25 @@
 -- What is printed for a list and headers is their output. Assumes nothing.
-use mathlib.Core.Path.{_≡_, refl, sym, ap, _∙_}
-use mathlib.Core.List.{List, [], _∷_, _++_, map, append-assoc}
-use Prim.Native.Nat.{ℕ, _-_, _≤_}
-use native.Mathlib.Omega.{arith}
-use native.Mathlib.Nat.{sub-zero}
+use mathlib.Core.Path.{_≡_, ap, _∙_}
+use mathlib.Core.List.{List, _++_, map, append-assoc}
+use Prim.Native.Nat.{ℕ, _-_}
 use lib.ListN.{length, take}
-use Rattle.std.proofs.shelf.Lists.{take-map}
 use Rattle.std.specs.declared.result.Result.the-variants.{Ok, Err}
 use Rattle.acl.specs.declared.line.Line.{Line}
 use Rattle.acl.specs.Shapes.{Shape, shape}
 use Rattle.words.specs.Lines.{textLines}
 use Rattle.ios.specs.declared.outcome.Fault.{Fault}
 use Rattle.ios.specs.declared.outcome.Reading.{Reading}
+use Rattle.ios.specs.Faults.{faultText}
 use Rattle.ios.specs.Reading.{textOf, readOf, over}
 use Rattle.ios.specs.Stands.{Reading-stands}
+use Rattle.ios.proofs.Fronts.{lines-read}
 use Rattle.deciding.specs.declared.answer.Tally.{Tally}
-use Rattle.deciding.specs.Answers.{lineText, refusalText, summaryText}
+use Rattle.deciding.specs.Answers.{lineText, summaryText}
 use Rattle.deciding.specs.Output.{answersFrom, tallyOf, reportBy}
-
-over-front : (ss old : List Shape) → length ss ≤ length old → take (length ss) (over ss old) ≡ ss
-over-front [] old h = refl
-over-front (s ∷ ss) [] h = absurd (omega arith)
-over-front (s ∷ ss) (o ∷ old) h = ap (λ l. s ∷ l) (over-front ss old (omega arith))
-
--- the front of the memory holds the lines of the text
-lines-read : (text : List ℕ) (k : ℕ) (old : List Shape) (memory : List Line) → map shape memory ≡ over (textOf text .lines) old → k ≡ length (textOf text .lines) → k ≤ length old
-    → map shape (take (k - 0) memory) ≡ textOf text .lines
-lines-read text k old memory written same fits =
-    let ss = textOf text .lines in
-    ap (λ j. map shape (take j memory)) (sub-zero k) ∙ sym (take-map shape k memory) ∙ ap (take k) written ∙ ap (λ j. take j (over ss old)) same
-    ∙ over-front ss old (omega arith)
 
 -- the refusal is the output for a list that is refused
 pub report-refused : (list headers : List ℕ) (f : Fault) (start : List ℕ) → Err f ≡ readOf list 1024
-    → start ++ lineText (refusalText f) ≡ start ++ reportBy (readOf list 1024) (textOf list .lines) (textLines headers)
+    → start ++ lineText (faultText f) ≡ start ++ reportBy (readOf list 1024) (textOf list .lines) (textLines headers)
 report-refused list headers f start answer = ap (λ a. start ++ reportBy a (textOf list .lines) (textLines headers)) answer
 
 -- the answers and the last line are the output for a list that is read
@@ -44,8 +30,7 @@ pub report-read : (list headers : List ℕ) (r : Reading) (old : List Shape) (me
 report-read list headers r old memory n start answers answer stands room written said counted =
     let ls = textLines headers in
     let ss = map shape (take (r .count - 0) memory) in
-    let sound = stands .sound list 1024 r (sym answer) in
-    let front = lines-read list (r .count) old memory written (sound .1) (omega (arith, sound .2)) in
+    let front = lines-read list 1024 r old memory answer stands room written in
     ap (λ a. a ++ lineText (summaryText (r .count) n)) said ∙ append-assoc start (answersFrom ss 1 ls) (lineText (summaryText (r .count) n))
     ∙ ap (λ t. start ++ (answersFrom ss 1 ls ++ lineText (summaryText (r .count) t))) counted
     ∙ ap (λ l. start ++ reportBy (Ok r) l ls) front ∙ ap (λ a. start ++ reportBy a (textOf list .lines) ls) answer

@@ -1,4 +1,4 @@
--- The text of an answer, of the last line and of a refusal. Assumes nothing.
+-- The text of an answer and of the last line. Assumes nothing.
 use mathlib.Core.List.{List, [], _∷_, _++_}
 use Prim.Native.Nat.{ℕ, _+_}
 use lib.Chars.{codes}
@@ -7,9 +7,7 @@ use Rattle.std.specs.declared.option.Option.{Option}
 use Rattle.std.specs.declared.option.Option.the-variants.{Some, None}
 use Rattle.acl.specs.declared.terms.Action.{Action}
 use Rattle.acl.specs.declared.terms.Action.the-variants.{Deny, Permit}
-use Rattle.acl.specs.Refusals.{refusalNumber}
 use Rattle.acl.specs.Shapes.{Shape, shape}
-use Rattle.ios.specs.declared.outcome.Fault.{Fault}
 use Rattle.deciding.specs.declared.answer.Answer.{Answer}
 use Rattle.deciding.specs.declared.answer.Answer.the-variants.{Line, End, Bad}
 use Rattle.deciding.specs.declared.answer.Tally.{Tally}
@@ -41,7 +39,3 @@ abbrev pub summaryText : ℕ → Tally → List ℕ
 summaryText k t =
     decimal k ++ (codes " lines, " ++ (decimal (t .permit + t .deny + t .bad) ++ (codes " headers: "
     ++ (decimal (t .permit) ++ (codes " permit, " ++ (decimal (t .deny) ++ (codes " deny, " ++ (decimal (t .bad) ++ codes " bad"))))))))
-
--- a refused list: `refused 12 3 18`
-abbrev pub refusalText : Fault → List ℕ
-refusalText f = codes "refused " ++ (decimal (refusalNumber (f .refusal)) ++ (32 ∷ (decimal (f .line) ++ (32 ∷ decimal (f .column)))))

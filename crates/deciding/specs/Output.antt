@@ -12,6 +12,7 @@ use Rattle.acl.specs.Fits.{firstMatch}
 use Rattle.words.specs.Lines.{textLines}
 use Rattle.ios.specs.declared.outcome.Fault.{Fault}
 use Rattle.ios.specs.declared.outcome.Reading.{Reading}
+use Rattle.ios.specs.Faults.{faultText}
 use Rattle.ios.specs.Reading.{readOf, textOf}
 use Rattle.deciding.specs.declared.answer.Answer.{Answer}
 use Rattle.deciding.specs.declared.answer.Answer.the-variants.{Line, End, Bad as BadAnswer}
@@ -20,7 +21,7 @@ use Rattle.deciding.specs.declared.header_line.HeaderLine.{HeaderLine}
 use Rattle.deciding.specs.declared.header_line.HeaderLine.the-variants.{Passed, Good, Bad}
 use Rattle.deciding.specs.Halves.{listPart, headerPart}
 use Rattle.deciding.specs.HeaderLines.{headerLine}
-use Rattle.deciding.specs.Answers.{lineText, verdictText, badText, summaryText, refusalText}
+use Rattle.deciding.specs.Answers.{lineText, verdictText, badText, summaryText}
 
 -- what is printed for text line t of the header part
 abbrev pub answerBy : List Shape → ℕ → HeaderLine → List ℕ
@@ -57,7 +58,7 @@ tallyOf ss (l ∷ ls) = noted ss (headerLine l) (tallyOf ss ls)
 
 -- a refused list prints its refusal and nothing else
 abbrev pub reportBy : Result Reading Fault → List Shape → List (List ℕ) → List ℕ
-reportBy (Err f) ss ls = lineText (refusalText f)
+reportBy (Err f) ss ls = lineText (faultText f)
 reportBy (Ok r) ss ls = answersFrom ss 1 ls ++ lineText (summaryText (r .count) (tallyOf ss ls))
 
 -- the whole output for an input; memory holds 1,024 lines, so it is never too short

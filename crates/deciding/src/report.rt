@@ -8,7 +8,8 @@ ghost use Rattle.acl.specs.Fits.{firstMatch};
 ghost use Rattle.words.specs.Lines.{textLines};
 ghost use Rattle.ios.specs.Reading.{readOf, textOf};
 ghost use Rattle.deciding.specs.declared.answer.Tally.{Tally as TallyT};
-ghost use Rattle.deciding.specs.Answers.{lineText, answerText, verdictText, refusalText, summaryText};
+ghost use Rattle.ios.specs.Faults.{faultText};
+ghost use Rattle.deciding.specs.Answers.{lineText, answerText, verdictText, summaryText};
 ghost use Rattle.deciding.specs.HeaderLines.{headerLine};
 ghost use Rattle.deciding.specs.Output.{answerBy, answersFrom, noted, tallyOf, reportBy, reportOf, answerNoted, verdictNoted};
 ghost use Rattle.deciding.specs.Stands.{Report-stands};
@@ -26,6 +27,7 @@ use acl::terms::Action;
 use ios::outcome::Fault;
 use ios::outcome::Reading;
 use ios::read::read;
+use ios::shown::FaultDisplay;
 use std::alloc::Global;
 use std::fmt;
 use words::lines::TextLines;
@@ -98,12 +100,9 @@ fn put_answers(out: &mut String, lines: &[Line], headers: &[u8]) -> Result<Tally
 }
 
 fn put_refusal(out: &mut String, fault: Fault) -> fmt::Result
-    ensures { λ r. ⌜ made r (λ _. string-bytes (now (out .exit)) ≡ string-bytes (now (out .entry)) ++ lineText (refusalText fault)) ⌝ }
+    ensures { λ r. ⌜ made r (λ _. string-bytes (now (out .exit)) ≡ string-bytes (now (out .entry)) ++ lineText (faultText fault)) ⌝ }
 {
-    let number = fault.refusal.number();
-    let line = fault.line;
-    let column = fault.column;
-    writeln!(out, "refused {number} {line} {column}")
+    writeln!(out, "{fault}")
 }
 
 fn put_summary(out: &mut String, count: usize, tally: Tally) -> fmt::Result

@@ -11,3 +11,5 @@ pub mod Known
 pub mod Chains
 pub mod Began
 pub mod Whole
+pub mod Fronts
+pub mod Reasons

@@ -155,7 +155,7 @@ follows-agreed None n c f r h = refl
 follows-agreed (Some k) n c f r h = cond-on (eqb k n) _ _ (eq-eqb k n h)
 
 -- lists have the numbers 1–2699
-family-range : (n : ℕ) (f : Family) → familyOf n ≡ Some f → (1 ≤ n) × (n ≤ 2699)
+pub family-range : (n : ℕ) (f : Family) → familyOf n ≡ Some f → (1 ≤ n) × (n ≤ 2699)
 family-range n f e = (grind (arith, tells), grind (arith, tells))
 
 pub list-number-takes : (known : Option ℕ) (n : ℕ) (f : Family) (w : List ℕ) (z c : ℕ) (us : List Spanned)

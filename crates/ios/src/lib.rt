@@ -5,6 +5,7 @@ pub mod outcome;
 mod parse;
 pub mod read;
 pub mod said;
+pub mod shown;
 mod sides;
 pub mod state;
 mod terms;

@@ -5,3 +5,5 @@ mod fitting;
 mod reading;
 #[cfg(test)]
 mod reporting;
+#[cfg(test)]
+mod writing;

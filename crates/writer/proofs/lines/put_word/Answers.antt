@@ -1,0 +1,9 @@
+use native.Mathlib.Omega.{arith}
+use Rattle.writer.proofs.Overs.{word}
+use Rattle.writer.proofs.lines.put_word.Needs as need
+
+pub returns : need.returns
+returns c = record {
+  text = word (c .put-space-i .ensures) (c .put-bytes .ensures);
+  short = omega arith;
+}

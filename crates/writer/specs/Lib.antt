@@ -1,0 +1,4 @@
+pub mod Canon
+pub mod Pens
+pub mod Writing
+pub mod Back
