@@ -1,7 +1,7 @@
 -- The front of line memory after reading. Assumes nothing.
 use mathlib.Core.Path.{_≡_, refl, sym, ap, _∙_}
 use mathlib.Core.List.{List, [], _∷_, map}
-use Prim.Native.Nat.{ℕ, _-_, _≤_}
+use Prim.Native.Nat.{ℕ, suc, _-_, _≤_}
 use native.Mathlib.Omega.{arith}
 use native.Mathlib.Nat.{sub-zero}
 use lib.ListN.{length, take}
@@ -13,10 +13,16 @@ use Rattle.ios.specs.declared.outcome.Reading.{Reading}
 use Rattle.ios.specs.Reading.{textOf, readOf, over}
 use Rattle.ios.specs.Stands.{Reading-stands}
 
-over-front : (ss old : List Shape) → length ss ≤ length old → take (length ss) (over ss old) ≡ ss
+-- the front of memory is what was written over it, and memory keeps its length
+pub over-front : {A : Type 0} (new old : List A) → length new ≤ length old → take (length new) (over new old) ≡ new
 over-front [] old h = refl
 over-front (s ∷ ss) [] h = absurd (omega arith)
 over-front (s ∷ ss) (o ∷ old) h = ap (λ l. s ∷ l) (over-front ss old (omega arith))
+
+pub length-over : {A : Type 0} (new old : List A) → length (over new old) ≡ length old
+length-over [] old = refl
+length-over (s ∷ ss) [] = refl
+length-over (s ∷ ss) (o ∷ old) = ap suc (length-over ss old)
 
 -- the front of the memory holds the lines of the text
 pub lines-read : (text : List ℕ) (room : ℕ) (r : Reading) (old : List Shape) (memory : List Line)

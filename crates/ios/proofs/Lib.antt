@@ -13,3 +13,4 @@ pub mod Began
 pub mod Whole
 pub mod Fronts
 pub mod Reasons
+pub mod Lined
