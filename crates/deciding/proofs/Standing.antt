@@ -17,7 +17,7 @@ use Rattle.words.specs.Words.{Spanned, spanned, wordsAt, bytesOf}
 use Rattle.words.specs.Meaning.{AddressText}
 use Rattle.words.specs.Cursor.{Rest, restOf, Step}
 use Rattle.words.proofs.Addresses.{address-every}
-use Rattle.ios.specs.Parsing.{comment}
+use Rattle.words.specs.Keywords.{comment}
 use Rattle.ios.specs.Grammar.{WordsText, PassedText}
 use Rattle.ios.specs.Grammar.PassedText.{blank-line, comment-line}
 use Rattle.ios.specs.Stands.{upTo}

@@ -9,7 +9,7 @@ use Rattle.acl.specs.declared.header.Header.{Header}
 use Rattle.acl.specs.declared.refusal.Refusal.the-variants.{BadWord}
 use Rattle.words.specs.Words.{Spanned}
 use Rattle.words.specs.Cursor.{Rest, restOf, Step, stop, onward, addressOf, numberOf}
-use Rattle.ios.specs.Parsing.{comment}
+use Rattle.words.specs.Keywords.{comment}
 use Rattle.deciding.specs.declared.header_line.HeaderLine.{HeaderLine}
 use Rattle.deciding.specs.declared.header_line.HeaderLine.the-variants.{Passed, Good, Bad}
 

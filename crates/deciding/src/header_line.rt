@@ -1,10 +1,8 @@
 ghost use mathlib.Core.Path.{_≡_};
-ghost use Rattle.words.specs.Cursor.{rest, handed, wordShown};
+ghost use Rattle.words.specs.Cursor.{rest, handed};
 ghost use Rattle.deciding.specs.HeaderLines.{headerOf, headerLine, passes as passesBy};
-ghost use Rattle.ios.specs.Parsing.{comment};
 use acl::header::Header;
 use words::part::Stop;
-use words::part::Word;
 use words::words::Words;
 
 // What a text line of the header part says.
@@ -34,25 +32,13 @@ fn header(words: &mut Words<'_>) -> Result<Header, Stop>
     })
 }
 
-fn opens_comment(word: Word<'_>) -> bool
-    ensures { λ r. ⌜ r ≡ comment (wordShown (word .entry) .bytes) ⌝ }
-{
-    let part = match word {
-        Word::Keyword(part) | Word::Number(part) | Word::Address(part) => part,
-    };
-    match part.bytes {
-        [b'!', ..] => true,
-        _ => false,
-    }
-}
-
 // Whether the words say nothing: there are none, or a comment opens.
 fn passes(words: &Words<'_>) -> bool
     ensures { λ r. ⌜ r ≡ passesBy (rest (now (words .entry)) .words) ⌝ }
 {
     match words.peek() {
         None => true,
-        Some(word) => opens_comment(word),
+        Some(word) => word.opens_comment(),
     }
 }
 

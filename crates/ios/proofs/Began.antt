@@ -32,9 +32,10 @@ use Rattle.ios.specs.declared.family.Family.the-variants.{Standard, Extended}
 use Rattle.ios.specs.declared.family.ListNumber.{ListNumber}
 use Rattle.ios.specs.declared.family.Network.{Network}
 use Rattle.ios.specs.Entries.{EntryShape, network, everywhere, standardEntry, extendedEntry}
+use Rattle.words.specs.Keywords.{comment}
 use Rattle.ios.specs.Parsing.{nextBy, digitBy, familyOf, listNumber, agreed, listNumberOf, actionNamed, actionOf, protocolNamed, protocolOf, hostOf}
 use Rattle.ios.specs.Parsing.{wildcardOf, networkOf, closedBy, sourceOf, portOf, forwardRange, rangeOf, testOf, portsOf, logOf, closeOf}
-use Rattle.ios.specs.Parsing.{standardOf, extendedOf, entryOf, lineSaid, bodySays, comment, says}
+use Rattle.ios.specs.Parsing.{standardOf, extendedOf, entryOf, lineSaid, bodySays, says}
 use Rattle.ios.specs.Grammar.{ActionText, ProtocolText, NetworkText, SourceText, PortText, PortsText, LogText, EntryText, LineText, Follows}
 use Rattle.ios.specs.Grammar.LineText.{numbered-line}
 use Rattle.ios.specs.Stands.{upTo}

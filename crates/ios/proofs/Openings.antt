@@ -9,10 +9,10 @@ use Rattle.std.specs.declared.option.Option.the-variants.{Some}
 use Rattle.std.specs.declared.result.Result.the-variants.{Err}
 use Rattle.acl.specs.declared.refusal.Refusal.the-variants.{BadWord}
 use Rattle.words.specs.declared.part.Word.{Word}
-use Rattle.words.specs.Keywords.{named}
+use Rattle.words.specs.Keywords.{named, comment}
 use Rattle.words.specs.Words.{Spanned}
 use Rattle.words.specs.Cursor.{Rest, Peeks, wordShown, passed, placeBy, stop}
-use Rattle.ios.specs.Parsing.{comment, saysBy, bodySays, listNumberOf}
+use Rattle.ios.specs.Parsing.{saysBy, bodySays, listNumberOf}
 
 pub opens-list : (known : Option ℕ) (r : Rest) (ws : List Spanned) (w : Word) → Peeks ws (Some w)
     → false ≡ comment (wordShown w .bytes) → true ≡ named (wordShown w .bytes) (codes "access-list")

@@ -22,7 +22,7 @@ use Rattle.acl.specs.Refusals.{refusalNumber}
 use Rattle.acl.specs.Shapes.{Shape}
 use Rattle.acl.specs.Terms.{takesPorts}
 use Rattle.words.specs.declared.part.Stop.{Stop}
-use Rattle.words.specs.Keywords.{named}
+use Rattle.words.specs.Keywords.{named, comment}
 use Rattle.words.specs.Lines.{textLines}
 use Rattle.words.specs.Words.{Spanned, wordsAt}
 use Rattle.words.specs.Cursor.{Rest, restOf, passed, Step, onward, expectBy, expectOf, valued, addressOf, numberOf}
@@ -33,7 +33,7 @@ use Rattle.ios.specs.declared.family.Network.{Network}
 use Rattle.ios.specs.declared.outcome.Fault.{Fault}
 use Rattle.ios.specs.Entries.{EntryShape, everywhere, numbered}
 use Rattle.ios.specs.Parsing.{nextIs, agreed, listNumberOf, actionOf, protocolOf, hostOf, wildcardOf, networkOf, closedBy, sourceOf, portOf, rangeOf, testOf}
-use Rattle.ios.specs.Parsing.{portsOf, logOf, closed, closeOf, formOf, entryOf, Said, lineSaid, bodySays, comment, saysBy, lineSays}
+use Rattle.ios.specs.Parsing.{portsOf, logOf, closed, closeOf, formOf, entryOf, Said, lineSaid, bodySays, saysBy, lineSays}
 use Rattle.ios.specs.Reading.{faultAt, Text, refused, added, taken, scanEntry, scanBy, scan, textOf, countedBy, roomFor, readOf}
 
 -- a refusal by another reason than short memory, whose number is 9

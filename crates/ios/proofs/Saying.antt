@@ -17,13 +17,13 @@ use Rattle.std.proofs.shelf.Ways.{decides-eqb, tells}
 use Rattle.acl.specs.declared.refusal.Refusal.the-variants.{BadNumber}
 use Rattle.acl.specs.declared.terms.Action.{Action}
 use Rattle.words.specs.declared.part.Stop.{Stop}
-use Rattle.words.specs.Keywords.{named}
+use Rattle.words.specs.Keywords.{named, comment}
 use Rattle.words.specs.Words.{Spanned, spanned, bytesOf}
 use Rattle.words.specs.Cursor.{Rest, restBy, Step, onward, valued}
 use Rattle.ios.specs.declared.family.Family.{Family}
 use Rattle.ios.specs.declared.family.ListNumber.{ListNumber}
 use Rattle.ios.specs.Entries.{EntryShape}
-use Rattle.ios.specs.Parsing.{nextBy, familyOf, listNumber, agreed, listNumberOf, entryOf, Said, said, lineSaid, bodySays, comment, says}
+use Rattle.ios.specs.Parsing.{nextBy, familyOf, listNumber, agreed, listNumberOf, entryOf, Said, said, lineSaid, bodySays, says}
 use Rattle.ios.specs.Grammar.{ActionText, EntryText, LineText, RemarkText, PassedText, Follows}
 use Rattle.ios.specs.Grammar.ActionText.{permit, deny}
 use Rattle.ios.specs.Grammar.EntryText.{standard, extended}

@@ -18,7 +18,7 @@ use Rattle.acl.specs.declared.terms.PortTest.{PortTest}
 use Rattle.acl.specs.declared.terms.PortTest.the-variants.{Any as AnyPort, Eq, Neq, Lt, Gt, Range}
 use Rattle.acl.specs.Terms.{takesPorts}
 use Rattle.words.specs.declared.part.Stop.{Stop}
-use Rattle.words.specs.Keywords.{named}
+use Rattle.words.specs.Keywords.{named, comment}
 use Rattle.words.specs.Words.{Spanned}
 use Rattle.words.specs.Cursor.{Rest, restOf, beginsWithDigit, passed, place, stop, Step, onward, expectOf, valued, addressOf, numberOf}
 use Rattle.ios.specs.declared.family.Family.{Family}
@@ -190,11 +190,6 @@ lineSaid n (Ok p) = Ok (said (Some n) (Some (p .0)))
 abbrev pub bodySays : Step ListNumber → Result Said Stop
 bodySays (Err s) = Err s
 bodySays (Ok p) = cond (nextIs (p .1) (codes "remark")) (Ok (said (Some (p .0 .number)) None)) (lineSaid (p .0 .number) (entryOf (p .0 .family) (p .1)))
-
--- a word that begins with ! opens a comment
-abbrev pub comment : List ℕ → Bool
-comment [] = false
-comment (b ∷ bs) = eqb b 33
 
 abbrev pub saysBy : Option ℕ → Rest → List Spanned → Result Said Stop
 saysBy known r [] = Ok (said known None)

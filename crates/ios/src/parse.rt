@@ -1,8 +1,7 @@
 ghost use mathlib.Core.Path.{_≡_};
-ghost use mathlib.Core.Bool.{true};
-ghost use Rattle.words.specs.Cursor.{rest, handed, wordShown};
+ghost use Rattle.words.specs.Cursor.{rest, handed};
 ghost use Rattle.ios.specs.Entries.{entryShape, standardEntry};
-ghost use Rattle.ios.specs.Parsing.{standardOf, extendedOf, entryOf, bodySays, comment, listNumberOf, lineSays, says};
+ghost use Rattle.ios.specs.Parsing.{standardOf, extendedOf, entryOf, bodySays, listNumberOf, lineSays, says};
 ghost use Rattle.ios.specs.Shown.{entryOk, saidOk};
 use crate::entry::Entry;
 use crate::family::Family;
@@ -14,11 +13,9 @@ use crate::sides::ports;
 use crate::sides::side;
 use crate::sides::standard_source;
 use crate::terms::action;
-use crate::terms::is;
 use crate::terms::list_number;
 use crate::terms::log;
 use crate::terms::next_is;
-use crate::terms::part;
 use crate::terms::protocol;
 use acl::refusal::Refusal;
 use acl::side::Side;
@@ -26,7 +23,6 @@ use acl::terms::Action;
 use acl::terms::PortTest;
 use acl::terms::Protocol;
 use words::part::Stop;
-use words::part::Word;
 use words::words::Words;
 
 // A standard line has any protocol and any destination.
@@ -105,23 +101,14 @@ fn body(words: &mut Words<'_>, known: Option<u16>) -> Result<Said, Stop>
     })
 }
 
-fn opens_comment(word: Word<'_>) -> bool
-    ensures { λ r. ⌜ r ≡ comment (wordShown (word .entry) .bytes) ⌝ }
-{
-    match part(word).bytes {
-        [b'!', ..] => true,
-        _ => false,
-    }
-}
-
 // What the words of a text line say after the list number that is known.
 fn words_say(words: &mut Words<'_>, known: Option<u16>) -> Result<Said, Stop>
     ensures { λ r. ⌜ saidOk r ≡ says known (rest (now (words .entry))) ⌝ }
 {
     match words.peek() {
         None => Ok(Said { known, entry: None }),
-        Some(word) if opens_comment(word) => Ok(Said { known, entry: None }),
-        Some(word) if is(word, b"access-list") => {
+        Some(word) if word.opens_comment() => Ok(Said { known, entry: None }),
+        Some(word) if word.is(b"access-list") => {
             words.pass();
             body(words, known)
         }

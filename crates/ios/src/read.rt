@@ -17,9 +17,10 @@ use acl::refusal::Refusal;
 use words::lines::TextLines;
 use words::part::Stop;
 
-const MOST_BYTES: usize = 65536;
+// The limits of a text and of a list.
+pub const MOST_BYTES: usize = 65536;
 
-const MOST_LINES: usize = 1024;
+pub const MOST_LINES: usize = 1024;
 
 fn fault(line: usize, stop: Stop) -> Fault
     ensures { λ r. ⌜ r ≡ faultIn line stop ⌝ }

@@ -7,7 +7,6 @@ ghost use Rattle.words.specs.Cursor.{rest, handed};
 ghost use Rattle.ios.specs.Entries.{sideOf};
 ghost use Rattle.ios.specs.Parsing.{hostOf, wildcardOf, networkOf, closedBy, sourceOf, portOf, rangeOf, testOf, portsOf};
 use crate::family::Network;
-use crate::terms::is;
 use crate::terms::next_is;
 use acl::refusal::Refusal;
 use acl::side::Side;
@@ -62,7 +61,7 @@ fn closed(words: &Words<'_>) -> bool
 {
     match words.peek() {
         None => true,
-        Some(word) => is(word, b"log"),
+        Some(word) => word.is(b"log"),
     }
 }
 
@@ -119,23 +118,23 @@ fn test(words: &mut Words<'_>) -> Result<PortTest, Stop>
     ensures narrow { λ r. ⌜ Cases r (λ t. portsNarrow t ≡ true) (λ _. Unit {0}) ⌝ }
 {
     match words.peek() {
-        Some(word) if is(word, b"eq") => {
+        Some(word) if word.is(b"eq") => {
             words.pass();
             Ok(PortTest::Eq(port(words)?))
         }
-        Some(word) if is(word, b"neq") => {
+        Some(word) if word.is(b"neq") => {
             words.pass();
             Ok(PortTest::Neq(port(words)?))
         }
-        Some(word) if is(word, b"lt") => {
+        Some(word) if word.is(b"lt") => {
             words.pass();
             Ok(PortTest::Lt(port(words)?))
         }
-        Some(word) if is(word, b"gt") => {
+        Some(word) if word.is(b"gt") => {
             words.pass();
             Ok(PortTest::Gt(port(words)?))
         }
-        Some(word) if is(word, b"range") => {
+        Some(word) if word.is(b"range") => {
             words.pass();
             range(words)
         }

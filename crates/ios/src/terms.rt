@@ -2,8 +2,7 @@ ghost use mathlib.Core.Path.{_≡_};
 ghost use mathlib.Core.Bool.{true};
 ghost use Rattle.std.specs.Results.{Cases};
 ghost use Rattle.acl.specs.Terms.{protocolNarrow};
-ghost use Rattle.words.specs.Keywords.{named};
-ghost use Rattle.words.specs.Cursor.{rest, handed, wordPart, wordShown, expectOf};
+ghost use Rattle.words.specs.Cursor.{rest, handed, wordShown, expectOf};
 ghost use Rattle.ios.specs.Parsing.{nextIs, actionNamed, actionOf, protocolNamed, protocolOf, listNumberOf, logOf, nextDigit};
 ghost use Rattle.ios.specs.Shown.{shownOk};
 ghost use Rattle.std.specs.declared.result.Result.the-variants.{Ok};
@@ -12,26 +11,9 @@ use crate::family::ListNumber;
 use acl::refusal::Refusal;
 use acl::terms::Action;
 use acl::terms::Protocol;
-use words::keyword::is_keyword;
-use words::part::Part;
 use words::part::Stop;
 use words::part::Word;
 use words::words::Words;
-
-pub(crate) fn part(word: Word<'_>) -> Part<'_>
-    ensures { λ r. ⌜ r ≡ wordPart (word .entry) ⌝ }
-{
-    match word {
-        Word::Keyword(part) | Word::Number(part) | Word::Address(part) => part,
-    }
-}
-
-// Whether a word is the keyword.
-pub(crate) fn is(word: Word<'_>, keyword: &[u8]) -> bool
-    ensures { λ r. ⌜ r ≡ named (wordShown (word .entry) .bytes) (now (keyword .entry)) ⌝ }
-{
-    is_keyword(part(word).bytes, keyword)
-}
 
 // Whether the next word is the keyword.
 pub(crate) fn next_is(words: &Words<'_>, keyword: &[u8]) -> bool
@@ -39,7 +21,7 @@ pub(crate) fn next_is(words: &Words<'_>, keyword: &[u8]) -> bool
 {
     match words.peek() {
         None => false,
-        Some(word) => is(word, keyword),
+        Some(word) => word.is(keyword),
     }
 }
 
@@ -60,8 +42,8 @@ fn action_named(word: Word<'_>) -> Option<Action>
     ensures { λ r. ⌜ r ≡ actionNamed (wordShown (word .entry) .bytes) ⌝ }
 {
     match word {
-        word if is(word, b"permit") => Some(Action::Permit),
-        word if is(word, b"deny") => Some(Action::Deny),
+        word if word.is(b"permit") => Some(Action::Permit),
+        word if word.is(b"deny") => Some(Action::Deny),
         _ => None,
     }
 }
@@ -75,7 +57,7 @@ pub(crate) fn action(words: &mut Words<'_>) -> Result<Action, Stop>
         Some(action) => Ok(action),
         None => Err(Stop {
             refusal: Refusal::BadWord,
-            column: part(word).column,
+            column: word.part().column,
         }),
     }
 }
@@ -84,11 +66,11 @@ fn protocol_named(word: Word<'_>) -> Option<Protocol>
     ensures { λ r. ⌜ r ≡ protocolNamed (wordShown (word .entry) .bytes) ⌝ }
 {
     match word {
-        word if is(word, b"ip") => Some(Protocol::Any),
-        word if is(word, b"icmp") => Some(Protocol::Number(1)),
-        word if is(word, b"igmp") => Some(Protocol::Number(2)),
-        word if is(word, b"tcp") => Some(Protocol::Number(6)),
-        word if is(word, b"udp") => Some(Protocol::Number(17)),
+        word if word.is(b"ip") => Some(Protocol::Any),
+        word if word.is(b"icmp") => Some(Protocol::Number(1)),
+        word if word.is(b"igmp") => Some(Protocol::Number(2)),
+        word if word.is(b"tcp") => Some(Protocol::Number(6)),
+        word if word.is(b"udp") => Some(Protocol::Number(17)),
         _ => None,
     }
 }
@@ -118,7 +100,7 @@ pub(crate) fn protocol(words: &mut Words<'_>) -> Result<Protocol, Stop>
         Some(protocol) => Ok(protocol),
         None => Err(Stop {
             refusal: Refusal::BadWord,
-            column: part(word).column,
+            column: word.part().column,
         }),
     }
 }

@@ -1,3 +1,7 @@
+ghost use mathlib.Core.Path.{_≡_};
+ghost use Rattle.words.specs.Cursor.{wordPart, wordShown};
+ghost use Rattle.words.specs.Keywords.{named, comment};
+use crate::keyword::is_keyword;
 use acl::refusal::Refusal;
 use acl::refusal::RefusalDebug;
 use acl::refusal::RefusalPartialEq;
@@ -24,4 +28,31 @@ pub enum Word<'a> {
 pub struct Stop {
     pub refusal: Refusal,
     pub column: usize,
+}
+
+impl<'a> Word<'a> {
+    pub fn part(self) -> Part<'a>
+        ensures { λ r. ⌜ r ≡ wordPart (self .entry) ⌝ }
+    {
+        match self {
+            Word::Keyword(part) | Word::Number(part) | Word::Address(part) => part,
+        }
+    }
+
+    // Whether the word is the keyword.
+    pub fn is(self, keyword: &[u8]) -> bool
+        ensures { λ r. ⌜ r ≡ named (wordShown (self .entry) .bytes) (now (keyword .entry)) ⌝ }
+    {
+        is_keyword(self.part().bytes, keyword)
+    }
+
+    // Whether the word begins with `!`.
+    pub fn opens_comment(self) -> bool
+        ensures { λ r. ⌜ r ≡ comment (wordShown (self .entry) .bytes) ⌝ }
+    {
+        match self.part().bytes {
+            [b'!', ..] => true,
+            _ => false,
+        }
+    }
 }

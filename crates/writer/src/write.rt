@@ -12,10 +12,8 @@ use acl::refusal::Refusal;
 use acl::terms::PortTest;
 use acl::terms::Protocol;
 use ios::family::Family;
-
-const MOST_LINES: usize = 1024;
-
-const MOST_BYTES: usize = 65536;
+use ios::read::MOST_BYTES;
+use ios::read::MOST_LINES;
 
 // Whether a standard list can hold the line: any protocol, and any destination.
 fn standard_line(line: Line) -> bool
