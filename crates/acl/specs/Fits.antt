@@ -26,6 +26,7 @@ abbrev pub firstMatch : List Shape → Header → Option Shape
 firstMatch [] h = None
 firstMatch (l ∷ ls) h = cond (lineFits l h) (Some l) (firstMatch ls h)
 
+-- the contents of a line that was found, if one was
 abbrev pub foundShape : Option Line → Option Shape
 foundShape None = None
 foundShape (Some l) = Some (shape l)

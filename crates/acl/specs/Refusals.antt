@@ -5,6 +5,7 @@ use Rattle.acl.specs.declared.refusal.Layer.the-variants.{Word, Line, List as 
 use Rattle.acl.specs.declared.refusal.Refusal.{Refusal}
 use Rattle.acl.specs.declared.refusal.Refusal.the-variants.{TooManyLines, ShortMemory, TooLong, BadWord, BadAddress, BadNumber, BackwardRange, OtherList, NotStandard}
 
+-- the number under which manuals list the refusal
 abbrev pub refusalNumber : Refusal → ℕ
 refusalNumber TooManyLines = 6
 refusalNumber ShortMemory = 9
@@ -16,6 +17,7 @@ refusalNumber BackwardRange = 14
 refusalNumber OtherList = 15
 refusalNumber NotStandard = 16
 
+-- where a text is at fault: in a word, in a line, or in the list as a whole
 abbrev pub refusalLayer : Refusal → Layer
 refusalLayer TooManyLines = WholeList
 refusalLayer ShortMemory = WholeList

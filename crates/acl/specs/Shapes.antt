@@ -11,11 +11,13 @@ use Rattle.acl.specs.declared.terms.PortTest.the-variants.{Any as AnyPort}
 use Rattle.acl.specs.declared.side.Side.{Side}
 use Rattle.acl.specs.declared.line.Line.{Line}
 
+-- one side of a line
 pub record SideShape : Type 0 where
   pub address : ℕ
   pub wildcard : ℕ
   pub ports : PortTest
 
+-- a line
 pub record Shape : Type 0 where
   pub action : Action
   pub number : ℕ
@@ -24,9 +26,11 @@ pub record Shape : Type 0 where
   pub source : SideShape
   pub destination : SideShape
 
+-- the contents of a side
 abbrev pub sideShape : Side → SideShape
 sideShape s = record { address = s .address; wildcard = s .wildcard; ports = s .ports }
 
+-- the contents of a line
 abbrev pub shape : Line → Shape
 shape l = record { action = l .action; number = l .number; protocol = l .protocol; log = l .log; source = sideShape (l .source); destination = sideShape (l .destination) }
 

@@ -20,10 +20,12 @@ pub record Case : Type 0 where
   pub number : ℕ
   pub holds : ℕ → Bool
 
+-- any stands for every protocol, a number for itself
 abbrev pub protocolCase : Protocol → Case
 protocolCase AnyProtocol = record { number = 0; holds = λ p. true }
 protocolCase (Number n) = record { number = 1; holds = λ p. eqb p n }
 
+-- the ports that each test stands for
 abbrev pub portCase : PortTest → Case
 portCase Any = record { number = 0; holds = λ p. true }
 portCase (Eq n) = record { number = 1; holds = λ p. eqb p n }
@@ -32,10 +34,11 @@ portCase (Lt n) = record { number = 3; holds = λ p. ltb p n }
 portCase (Gt n) = record { number = 4; holds = λ p. ltb n p }
 portCase (Range a b) = record { number = 5; holds = λ p. cond (leb a p) (leb p b) false }
 
--- whether a protocol, or a port, is one that the term stands for
+-- whether a protocol is one that the term stands for
 abbrev pub protocolFits : Protocol → ℕ → Bool
 protocolFits t p = protocolCase t .holds p
 
+-- whether a port is one that the test stands for
 abbrev pub portFits : PortTest → ℕ → Bool
 portFits t p = portCase t .holds p
 
@@ -48,11 +51,12 @@ ordered (Lt n) = true
 ordered (Gt n) = true
 ordered (Range a b) = leb a b
 
--- a protocol has 8 bits, and a port 16
+-- a protocol has 8 bits
 abbrev pub protocolNarrow : Protocol → Bool
 protocolNarrow AnyProtocol = true
 protocolNarrow (Number n) = ltb n 256
 
+-- the ports of a test have 16 bits
 abbrev pub portsNarrow : PortTest → Bool
 portsNarrow Any = true
 portsNarrow (Eq n) = ltb n 65536

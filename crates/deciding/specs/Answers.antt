@@ -16,6 +16,7 @@ use Rattle.deciding.specs.declared.answer.Tally.{Tally}
 abbrev pub lineText : List ℕ → List ℕ
 lineText bs = bs ++ (10 ∷ [])
 
+-- an action as it is printed
 abbrev pub actionText : Action → List ℕ
 actionText Deny = codes "deny"
 actionText Permit = codes "permit"
@@ -29,6 +30,7 @@ verdictText (Some s) = actionText (s .action) ++ (32 ∷ decimal (s .number))
 abbrev pub badText : ℕ → ℕ → List ℕ
 badText t c = codes "bad header " ++ (decimal t ++ (32 ∷ decimal c))
 
+-- an answer of the code, as it is printed
 abbrev pub answerText : Answer → List ℕ
 answerText (Line l) = verdictText (Some (shape l))
 answerText End = verdictText None

@@ -6,11 +6,12 @@ use lib.Dec.{eqb}
 use lib.ListN.{take, drop}
 use Rattle.words.specs.Lines.{afterLine}
 
--- a text line ends here: at byte 10, at bytes 13 and 10, or with the text
+-- the next byte is 10
 abbrev pub feeds : List ℕ → Bool
 feeds [] = false
 feeds (b ∷ bs) = eqb b 10
 
+-- a text line ends here: at byte 10, at bytes 13 and 10, or with the text
 abbrev pub lineEnds : List ℕ → Bool
 lineEnds [] = true
 lineEnds (b ∷ bs) = cond (eqb b 10) true (cond (eqb b 13) (feeds bs) false)
@@ -25,9 +26,10 @@ abbrev pub markAt : Bool → List ℕ → ℕ
 markAt starts [] = 0
 markAt starts (b ∷ bs) = cond (cond starts (isMark (b ∷ bs)) false) 0 (markAt (eqb b 10) bs + 1)
 
--- the list is what stands before that line, and the headers what follows it
+-- the list is what stands before that line
 abbrev pub listPart : List ℕ → List ℕ
 listPart input = take (markAt true input) input
 
+-- the headers are what follows that line
 abbrev pub headerPart : List ℕ → List ℕ
 headerPart input = afterLine (drop (markAt true input) input)

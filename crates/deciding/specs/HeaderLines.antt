@@ -13,6 +13,7 @@ use Rattle.words.specs.Keywords.{comment}
 use Rattle.deciding.specs.declared.header_line.HeaderLine.{HeaderLine}
 use Rattle.deciding.specs.declared.header_line.HeaderLine.the-variants.{Passed, Good, Bad}
 
+-- the header of these five numbers
 abbrev pub headerBy : ℕ → ℕ → ℕ → ℕ → ℕ → Header
 headerBy s d p sp dp = record { source = s; destination = d; protocol = p; «source_port» = sp; «destination_port» = dp }
 
@@ -36,6 +37,7 @@ abbrev pub passes : List Spanned → Bool
 passes [] = true
 passes (w ∷ ws) = comment (w .bytes)
 
+-- a header, or the column of the stop
 abbrev pub foundHeader : Step Header → HeaderLine
 foundHeader (Ok p) = Good (p .0)
 foundHeader (Err s) = Bad (s .column)

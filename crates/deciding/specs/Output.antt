@@ -34,6 +34,7 @@ abbrev pub answersFrom : List Shape → ℕ → List (List ℕ) → List ℕ
 answersFrom ss t [] = []
 answersFrom ss t (l ∷ ls) = answerBy ss t (headerLine l) ++ answersFrom ss (t + 1) ls
 
+-- these counts of permitted, denied and malformed headers
 abbrev pub tally : ℕ → ℕ → ℕ → Tally
 tally p d b = record { permit = p; deny = d; bad = b }
 
@@ -42,10 +43,12 @@ abbrev pub actionNoted : Action → Tally → Tally
 actionNoted Permit t = tally (t .permit + 1) (t .deny) (t .bad)
 actionNoted Deny t = tally (t .permit) (t .deny + 1) (t .bad)
 
+-- one header more that this line decides, or none; the end of the list denies
 abbrev pub verdictNoted : Option Shape → Tally → Tally
 verdictNoted None t = actionNoted Deny t
 verdictNoted (Some s) t = actionNoted (s .action) t
 
+-- one text line more of the header part
 abbrev pub noted : List Shape → HeaderLine → Tally → Tally
 noted ss Passed t = t
 noted ss (Good h) t = verdictNoted (firstMatch ss h) t

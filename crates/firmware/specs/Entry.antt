@@ -23,6 +23,7 @@ abbrev pub verdictOf : Option Shape → Action
 verdictOf None = Deny
 verdictOf (Some l) = l .action
 
+-- the verdict of the lines that were read, or the refusal
 abbrev pub decidedBy : Result Reading Fault → List Shape → Header → Result Action Refusal
 decidedBy (Err f) ls h = Err (f .refusal)
 decidedBy (Ok r) ls h = Ok (verdictOf (firstMatch ls h))
@@ -36,6 +37,7 @@ abbrev pub codeOf : Result Action Refusal → ℕ
 codeOf (Ok a) = actionNumber a
 codeOf (Err e) = 256 + refusalNumber e
 
+-- the answer to a text and the five numbers of a header
 abbrev pub entryOf : List ℕ → ℕ → ℕ → ℕ → ℕ → ℕ → ℕ
 entryOf text s d p sp dp = codeOf (decidedOf text (record { source = s; destination = d; protocol = p; «source_port» = sp; «destination_port» = dp }))
 

@@ -19,6 +19,7 @@ pub record EntryShape : Type 0 where
   pub source : SideShape
   pub destination : SideShape
 
+-- the contents of an entry
 abbrev pub entryShape : Entry → EntryShape
 entryShape e = record { action = e .action; protocol = e .protocol; log = e .log; source = sideShape (e .source); destination = sideShape (e .destination) }
 
@@ -26,6 +27,7 @@ entryShape e = record { action = e .action; protocol = e .protocol; log = e .log
 abbrev pub numbered : ℕ → EntryShape → Shape
 numbered n e = record { action = e .action; number = n; protocol = e .protocol; log = e .log; source = e .source; destination = e .destination }
 
+-- the addresses that an address and a wildcard stand for
 abbrev pub network : ℕ → ℕ → Network
 network a w = record { address = a; wildcard = w }
 
@@ -41,5 +43,6 @@ sideOf n t = record { address = bitAnd (n .address) (4294967295 - n .wildcard); 
 abbrev pub standardEntry : Action → Network → Bool → EntryShape
 standardEntry a n g = record { action = a; protocol = AnyProtocol; log = g; source = sideOf n AnyPort; destination = anySide }
 
+-- an extended line has all of its terms written
 abbrev pub extendedEntry : Action → Protocol → Network → PortTest → Network → PortTest → Bool → EntryShape
 extendedEntry a p s st d dt g = record { action = a; protocol = p; log = g; source = sideOf s st; destination = sideOf d dt }

@@ -25,6 +25,7 @@ adds (Err f) = 0
 adds (Ok None) = 0
 adds (Ok (Some e)) = 1
 
+-- the step from one state to the next: what it says of the text, and how the counts move
 pub record Steps (before after : State) (bytes : List ℕ) (r : Result (Option Entry) Fault) : Type 0 where
   pub text : (go : Option ℕ → ℕ → Text) → scanBy (before .line + 1) (before .count) (lineSays (before .known) bytes) go ≡ stepped r (after .count) (go (after .known) (after .count))
   pub line : after .line ≡ before .line + 1

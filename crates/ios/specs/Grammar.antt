@@ -59,10 +59,12 @@ pub data WordsText : List ℕ → List (List ℕ) → Type 0 where
 abbrev pub Keyword : List ℕ → List ℕ → Type 0
 Keyword w k = w ≡ k
 
+-- an action
 pub data ActionText : List ℕ → Action → Type 0 where
   permit : {w : List ℕ} → Keyword w (codes "permit") → ActionText w Permit
   deny : {w : List ℕ} → Keyword w (codes "deny") → ActionText w Deny
 
+-- a protocol, by name or by number
 pub data ProtocolText : List ℕ → Protocol → Type 0 where
   ip : {w : List ℕ} → Keyword w (codes "ip") → ProtocolText w AnyProtocol
   icmp : {w : List ℕ} → Keyword w (codes "icmp") → ProtocolText w (Number 1)
@@ -87,6 +89,7 @@ pub record PortText (w : List ℕ) (n : ℕ) : Type 0 where
   pub bytes : w ≡ decimal n
   pub small : n ≤ 65535
 
+-- a port test, or none
 pub data PortsText : List (List ℕ) → PortTest → Type 0 where
   no-test : PortsText [] AnyPort
   eq : {k w : List ℕ} {n : ℕ} → Keyword k (codes "eq") → PortText w n → PortsText (k ∷ (w ∷ [])) (Eq n)
@@ -95,6 +98,7 @@ pub data PortsText : List (List ℕ) → PortTest → Type 0 where
   gt : {k w : List ℕ} {n : ℕ} → Keyword k (codes "gt") → PortText w n → PortsText (k ∷ (w ∷ [])) (Gt n)
   range : {k w v : List ℕ} {a b : ℕ} → Keyword k (codes "range") → PortText w a → PortText v b → a ≤ b → PortsText (k ∷ (w ∷ (v ∷ []))) (Range a b)
 
+-- the log mark, or none
 pub data LogText : List (List ℕ) → Bool → Type 0 where
   no-log : LogText [] false
   logged : {k : List ℕ} → Keyword k (codes "log") → LogText (k ∷ []) true

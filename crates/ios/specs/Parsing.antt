@@ -32,6 +32,7 @@ abbrev pub nextBy : List Spanned → List ℕ → Bool
 nextBy [] k = false
 nextBy (w ∷ ws) k = named (w .bytes) k
 
+-- the same of what is left
 abbrev pub nextIs : Rest → List ℕ → Bool
 nextIs r k = nextBy (r .words) k
 
@@ -40,9 +41,11 @@ abbrev pub digitBy : List Spanned → Bool
 digitBy [] = false
 digitBy (w ∷ ws) = beginsWithDigit (w .bytes)
 
+-- the same of what is left
 abbrev pub nextDigit : Rest → Bool
 nextDigit r = digitBy (r .words)
 
+-- n lies from low to high
 abbrev pub between : ℕ → ℕ → ℕ → Bool
 between low high n = leb low n && leb n high
 
@@ -52,6 +55,7 @@ familyOf n =
     cond (between 1 99 n || between 1300 1999 n) (Some Standard)
     (cond (between 100 199 n || between 2000 2699 n) (Some Extended) None)
 
+-- a list number with the form of its lines
 abbrev pub listNumber : ℕ → Family → ListNumber
 listNumber n f = record { number = n; family = f }
 
@@ -67,12 +71,15 @@ listNumberOf known r =
     onward (valued (familyOf n) BadNumber (place r) more) (λ f more.
     agreed known (place r) (listNumber n f) more))
 
+-- the action that a word names
 abbrev pub actionNamed : List ℕ → Option Action
 actionNamed w = cond (named w (codes "permit")) (Some Permit) (cond (named w (codes "deny")) (Some Deny) None)
 
+-- the next word as an action
 abbrev pub actionOf : Rest → Step Action
 actionOf r = onward (expectOf r) (λ w more. valued (actionNamed (w .bytes)) BadWord (w .column) more)
 
+-- the protocol that a word names
 abbrev pub protocolNamed : List ℕ → Option Protocol
 protocolNamed w =
     cond (named w (codes "ip")) (Some AnyProtocol)
@@ -88,9 +95,11 @@ protocolOf r =
     (onward (numberOf 0 255 r) (λ n more. Ok (Number n, more)))
     (onward (expectOf r) (λ w more. valued (protocolNamed (w .bytes)) BadWord (w .column) more))
 
+-- the address after `host`
 abbrev pub hostOf : Rest → Step Network
 hostOf r = onward (addressOf r) (λ a more. Ok (network a 0, more))
 
+-- the wildcard after the address a
 abbrev pub wildcardOf : ℕ → Rest → Step Network
 wildcardOf a r = onward (addressOf r) (λ w more. Ok (network a w, more))
 
@@ -106,6 +115,7 @@ abbrev pub closedBy : List Spanned → Bool
 closedBy [] = true
 closedBy (w ∷ ws) = named (w .bytes) (codes "log")
 
+-- what may follow the address a in a standard line
 abbrev pub loneOf : ℕ → Rest → Step Network
 loneOf a r = cond (closedBy (r .words)) (Ok (network a 0, r)) (wildcardOf a r)
 
@@ -116,9 +126,11 @@ sourceOf r =
     (cond (nextIs r (codes "host")) (hostOf (passed r))
     (onward (addressOf r) loneOf))
 
+-- the next word as a port
 abbrev pub portOf : Rest → Step ℕ
 portOf r = numberOf 0 65535 r
 
+-- the range from a to b, or a stop at column c where it runs backward
 abbrev pub forwardRange : ℕ → ℕ → ℕ → Rest → Step PortTest
 forwardRange a b c r = cond (leb a b) (Ok (Range a b, r)) (Err (stop BackwardRange c))
 
@@ -126,6 +138,7 @@ forwardRange a b c r = cond (leb a b) (Ok (Range a b, r)) (Err (stop BackwardRan
 abbrev pub rangeOf : Rest → Step PortTest
 rangeOf r = onward (portOf r) (λ a more. onward (portOf more) (λ b after. forwardRange a b (place more) after))
 
+-- a port test, or none
 abbrev pub testOf : Rest → Step PortTest
 testOf r =
     cond (nextIs r (codes "eq")) (onward (portOf (passed r)) (λ n more. Ok (Eq n, more)))
@@ -138,6 +151,7 @@ testOf r =
 abbrev pub portsOf : Protocol → Rest → Step PortTest
 portsOf p r = cond (takesPorts p) (testOf r) (Ok (AnyPort, r))
 
+-- the log mark, or none
 abbrev pub logOf : Rest → Step Bool
 logOf r = cond (nextIs r (codes "log")) (Ok (true, passed r)) (Ok (false, r))
 
@@ -146,6 +160,7 @@ abbrev pub closed : EntryShape → Rest → List Spanned → Step EntryShape
 closed e r [] = Ok (e, r)
 closed e r (w ∷ ws) = Err (stop BadWord (w .column))
 
+-- the same of what is left
 abbrev pub closeOf : EntryShape → Rest → Step EntryShape
 closeOf e r = closed e r (r .words)
 
@@ -167,10 +182,12 @@ extendedOf a r =
     onward (logOf more) (λ g more.
     closeOf (extendedEntry a p s st d dt g) more))))))
 
+-- a line by the form of its list
 abbrev pub formOf : Family → Action → Rest → Step EntryShape
 formOf Standard a r = standardOf a r
 formOf Extended a r = extendedOf a r
 
+-- the action, and then the line by its form
 abbrev pub entryOf : Family → Rest → Step EntryShape
 entryOf f r = onward (actionOf r) (λ a more. formOf f a more)
 
@@ -179,9 +196,11 @@ pub record Said : Type 0 where
   pub known : Option ℕ
   pub entry : Option EntryShape
 
+-- what a text line says
 abbrev pub said : Option ℕ → Option EntryShape → Said
 said n e = record { known = n; entry = e }
 
+-- an entry of the list n, or its stop
 abbrev pub lineSaid : ℕ → Step EntryShape → Result Said Stop
 lineSaid n (Err s) = Err s
 lineSaid n (Ok p) = Ok (said (Some n) (Some (p .0)))
@@ -191,6 +210,7 @@ abbrev pub bodySays : Step ListNumber → Result Said Stop
 bodySays (Err s) = Err s
 bodySays (Ok p) = cond (nextIs (p .1) (codes "remark")) (Ok (said (Some (p .0 .number)) None)) (lineSaid (p .0 .number) (entryOf (p .0 .family) (p .1)))
 
+-- by the first word: nothing, a comment, a line of a list, or a stop
 abbrev pub saysBy : Option ℕ → Rest → List Spanned → Result Said Stop
 saysBy known r [] = Ok (said known None)
 saysBy known r (w ∷ ws) =

@@ -18,6 +18,7 @@ use Rattle.ios.specs.declared.outcome.Reading.{Reading}
 use Rattle.ios.specs.Entries.{EntryShape, numbered}
 use Rattle.ios.specs.Parsing.{Said, lineSays}
 
+-- a refusal at a text line and a column
 abbrev pub faultAt : Refusal → ℕ → ℕ → Fault
 faultAt why t c = record { refusal = why; line = t; column = c }
 
@@ -31,12 +32,15 @@ pub record Text : Type 0 where
   pub lines : List Shape
   pub fault : Option Fault
 
+-- a text that says this
 abbrev pub textBy : Option ℕ → List Shape → Option Fault → Text
 textBy n ls f = record { known = n; lines = ls; fault = f }
 
+-- a text that says nothing but a fault
 abbrev pub refused : Fault → Text
 refused f = textBy None [] (Some f)
 
+-- one line before those of the rest
 abbrev pub added : Shape → Text → Text
 added s rest = textBy (rest .known) (s ∷ rest .lines) (rest .fault)
 
@@ -49,6 +53,7 @@ abbrev pub scanEntry : ℕ → ℕ → Option EntryShape → (ℕ → Text) → 
 scanEntry t k None rest = rest k
 scanEntry t k (Some e) rest = taken t k e (rest (k + 1))
 
+-- a text line that stops ends the text; otherwise its entry counts
 abbrev pub scanBy : ℕ → ℕ → Result Said Stop → (Option ℕ → ℕ → Text) → Text
 scanBy t k (Err s) rest = refused (faultIn t s)
 scanBy t k (Ok s) rest = scanEntry t k (s .entry) (rest (s .known))
@@ -58,6 +63,7 @@ abbrev pub scan : ℕ → ℕ → Option ℕ → List (List ℕ) → Text
 scan t k known [] = textBy known [] None
 scan t k known (l ∷ ls) = scanBy t k (lineSays known l) (λ n m. scan (t + 1) m n ls)
 
+-- what a whole text says
 abbrev pub textOf : List ℕ → Text
 textOf bs = scan 1 0 None (textLines bs)
 
@@ -66,13 +72,16 @@ abbrev pub numberOrNone : Option ℕ → ℕ
 numberOrNone None = 0
 numberOrNone (Some n) = n
 
+-- what was read: the number, and the count of lines
 abbrev pub reading : ℕ → ℕ → Reading
 reading n k = record { number = n; count = k }
 
+-- the answer by the fault, if there is one
 abbrev pub countedBy : Option ℕ → ℕ → Option Fault → Result Reading Fault
 countedBy n k None = Ok (reading (numberOrNone n) k)
 countedBy n k (Some f) = Err f
 
+-- the answer to what a text says, memory sufficing
 abbrev pub counted : Text → Result Reading Fault
 counted t = countedBy (t .known) (length (t .lines)) (t .fault)
 

@@ -11,9 +11,11 @@ use Rattle.ios.specs.Faults.{faultText}
 use Rattle.ios.specs.Reading.{faultAt, readOf, textOf}
 use Rattle.writer.specs.Writing.{writeOf, textFor}
 
+-- the line that a refusal prints
 abbrev pub refusedText : Fault → List ℕ
 refusedText f = faultText f ++ (10 ∷ [])
 
+-- the text, or the refusal to write it
 abbrev pub canonicalBy : Result ℕ Refusal → List ℕ → List ℕ
 canonicalBy (Ok k) text = text
 canonicalBy (Err e) text = refusedText (faultAt e 0 0)
@@ -27,6 +29,7 @@ abbrev pub tidiedLines : List Shape → ℕ → List ℕ
 tidiedLines [] n = []
 tidiedLines (l ∷ ls) n = canonicalOf (l ∷ ls) n
 
+-- the lines that were read in canonical form, or the refusal
 abbrev pub tidiedBy : Result Reading Fault → List Shape → List ℕ
 tidiedBy (Ok r) ls = tidiedLines ls (r .number)
 tidiedBy (Err f) ls = refusedText f

@@ -15,6 +15,7 @@ pub record Tidies (input : List ℕ) (r : Reading) : Type 0 where
   pub read : readOf input 1024 ≡ Ok r
   pub written : writeOf (textOf input .lines) (r .number) 65536 ≡ Ok length
 
+-- the same list, in a form that stays
 pub record Tidied-stands : Type 0 where
   -- the output reads as the same list; a list without lines leaves no number
   pub same : (input : List ℕ) (r : Reading) → Tidies input r

@@ -24,6 +24,7 @@ pub record Rest : Type 0 where
   pub size : ℕ
   pub words : List Spanned
 
+-- a text line of length n with these words to come
 abbrev pub restBy : ℕ → List Spanned → Rest
 restBy n ws = record { size = n; words = ws }
 
@@ -40,6 +41,7 @@ abbrev pub beginsWithDigit : List ℕ → Bool
 beginsWithDigit [] = false
 beginsWithDigit (b ∷ bs) = digit b
 
+-- a dot is among the bytes
 abbrev pub hasDot : List ℕ → Bool
 hasDot [] = false
 hasDot (b ∷ bs) = cond (eqb b 46) true (hasDot bs)
@@ -56,6 +58,7 @@ wordPart (Keyword p) = p
 wordPart (Number p) = p
 wordPart (Address p) = p
 
+-- a word of the code as its column and bytes
 abbrev pub wordShown : Word → Spanned
 wordShown w = shown (wordPart w)
 
@@ -70,6 +73,7 @@ abbrev pub afterFirst : List Spanned → List Spanned
 afterFirst [] = []
 afterFirst (w ∷ ws) = ws
 
+-- what is left after the next word
 abbrev pub passed : Rest → Rest
 passed r = restBy (r .size) (afterFirst (r .words))
 
@@ -78,9 +82,11 @@ abbrev pub placeBy : ℕ → List Spanned → ℕ
 placeBy n [] = n
 placeBy n (w ∷ ws) = w .column
 
+-- the same of what is left
 abbrev pub place : Rest → ℕ
 place r = placeBy (r .size) (r .words)
 
+-- a refusal at a column
 abbrev pub stop : Refusal → ℕ → Stop
 stop why c = record { refusal = why; column = c }
 
@@ -107,6 +113,7 @@ abbrev pub expectBy : ℕ → List Spanned → Step Spanned
 expectBy n [] = Err (stop BadWord n)
 expectBy n (w ∷ ws) = Ok (w, restBy n ws)
 
+-- the same of what is left
 abbrev pub expectOf : Rest → Step Spanned
 expectOf r = expectBy (r .size) (r .words)
 
@@ -128,5 +135,6 @@ abbrev pub endBy : List Spanned → Result (Unit {0}) Stop
 endBy [] = Ok tt
 endBy (w ∷ ws) = Err (stop BadWord (w .column))
 
+-- the same of what is left
 abbrev pub endOf : Rest → Result (Unit {0}) Stop
 endOf r = endBy (r .words)

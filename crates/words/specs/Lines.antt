@@ -20,6 +20,7 @@ abbrev pub glued : ℕ → List (List ℕ) → List (List ℕ)
 glued b [] = (b ∷ []) ∷ []
 glued b (l ∷ ls) = (b ∷ l) ∷ ls
 
+-- the text lines of a text, without their ends
 abbrev pub textLines : List ℕ → List (List ℕ)
 textLines [] = []
 textLines (b ∷ bs) = cond (eqb b 10) ([] ∷ textLines bs) (cond (returning b bs) (textLines bs) (glued b (textLines bs)))

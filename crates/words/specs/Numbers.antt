@@ -6,9 +6,11 @@ use lib.Dec.{eqb, leb}
 use Rattle.std.specs.declared.option.Option.{Option}
 use Rattle.std.specs.declared.option.Option.the-variants.{Some, None}
 
+-- a byte from 0 to 9
 abbrev pub digit : ℕ → Bool
 digit b = cond (leb 48 b) (leb b 57) false
 
+-- all bytes are digits
 abbrev pub digits : List ℕ → Bool
 digits [] = true
 digits (b ∷ bs) = cond (digit b) (digits bs) false
@@ -18,6 +20,7 @@ abbrev pub readOn : ℕ → List ℕ → ℕ
 readOn n [] = n
 readOn n (b ∷ bs) = readOn (10 * n + (b - 48)) bs
 
+-- n where it lies from low to high
 abbrev pub within : ℕ → ℕ → ℕ → Option ℕ
 within low high n = cond (leb low n) (cond (leb n high) (Some n) None) None
 
@@ -31,11 +34,12 @@ numeral (b ∷ c ∷ cs) = cond (eqb b 48) false (digits (b ∷ c ∷ cs))
 abbrev pub numberIn : ℕ → ℕ → List ℕ → Option ℕ
 numberIn low high bs = cond (numeral bs) (within low high (readOn 0 bs)) None
 
--- the bytes before the first dot, and those after it, if there is one
+-- the bytes before the first dot
 abbrev pub beforeDot : List ℕ → List ℕ
 beforeDot [] = []
 beforeDot (b ∷ bs) = cond (eqb b 46) [] (b ∷ beforeDot bs)
 
+-- the bytes after the first dot, if there is one
 abbrev pub afterDot : List ℕ → Option (List ℕ)
 afterDot [] = None
 afterDot (b ∷ bs) = cond (eqb b 46) (Some bs) (afterDot bs)

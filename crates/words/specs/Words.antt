@@ -14,9 +14,11 @@ pub record Spanned : Type 0 where
   pub column : ℕ
   pub bytes : List ℕ
 
+-- the word of these bytes at a column
 abbrev pub spanned : ℕ → List ℕ → Spanned
 spanned c bs = record { column = c; bytes = bs }
 
+-- the bytes of a word
 abbrev pub bytesOf : Spanned → List ℕ
 bytesOf w = w .bytes
 
@@ -54,6 +56,7 @@ pub record NextPart (line : List ℕ) (from : ℕ) (p : Part) : Type 0 where
   pub some : 0 < length (p .bytes .now)
   pub inside : p .column + length (p .bytes .now) ≤ length line
 
+-- the first word at or after `from`, or none
 abbrev pub Next : List ℕ → ℕ → Option Part → Type 0
 Next line from None = wordsAt line from ≡ []
 Next line from (Some p) = NextPart line from p

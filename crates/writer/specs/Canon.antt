@@ -25,6 +25,7 @@ networkWords s =
     cond (eqb (s .wildcard) 4294967295) (codes "any" ∷ [])
     (cond (eqb (s .wildcard) 0) (codes "host" ∷ (dotted (s .address) ∷ [])) (dotted (s .address) ∷ (dotted (s .wildcard) ∷ [])))
 
+-- a port test, or no words for any
 abbrev pub portWords : PortTest → List (List ℕ)
 portWords AnyPort = []
 portWords (Eq n) = codes "eq" ∷ (decimal n ∷ [])
@@ -38,10 +39,12 @@ abbrev pub protocolWord : Protocol → List ℕ
 protocolWord AnyProtocol = codes "ip"
 protocolWord (Number n) = cond (eqb n 1) (codes "icmp") (cond (eqb n 6) (codes "tcp") (cond (eqb n 17) (codes "udp") (decimal n)))
 
+-- an action
 abbrev pub actionWord : Action → List ℕ
 actionWord Deny = codes "deny"
 actionWord Permit = codes "permit"
 
+-- the log mark, or no words
 abbrev pub logWords : Bool → List (List ℕ)
 logWords false = []
 logWords true = codes "log" ∷ []
@@ -54,6 +57,7 @@ entryWords Extended l =
     ∷ (networkWords (l .source) ++ (portWords (l .source .ports)
     ++ (networkWords (l .destination) ++ (portWords (l .destination .ports) ++ logWords (l .log))))))
 
+-- all words of a line
 abbrev pub lineWords : ℕ → Family → Shape → List (List ℕ)
 lineWords n f l = codes "access-list" ∷ (decimal n ∷ entryWords f l)
 
@@ -62,6 +66,7 @@ abbrev pub spaced : List (List ℕ) → List ℕ
 spaced [] = 10 ∷ []
 spaced (w ∷ ws) = (32 ∷ w) ++ spaced ws
 
+-- a text line, with its end
 abbrev pub lineBytes : ℕ → Family → Shape → List ℕ
 lineBytes n f l = codes "access-list" ++ spaced (decimal n ∷ entryWords f l)
 

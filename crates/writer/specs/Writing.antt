@@ -24,10 +24,12 @@ standardLine l =
     cond (eqb (protocolCase (l .protocol) .number) 0)
     (cond (eqb (l .destination .wildcard) 4294967295) (eqb (portCase (l .destination .ports) .number) 0) false) false
 
+-- lines that a standard list can hold
 abbrev pub allStandard : List Shape → Bool
 allStandard [] = true
 allStandard (l ∷ ls) = cond (standardLine l) (allStandard ls) false
 
+-- a standard list holds only such lines, an extended one all
 abbrev pub allowed : Family → List Shape → Bool
 allowed Standard ls = allStandard ls
 allowed Extended ls = true
@@ -36,6 +38,7 @@ allowed Extended ls = true
 abbrev pub sized : ℕ → ℕ → Result ℕ Refusal
 sized k room = cond (ltb 65536 k) (Err TooLong) (cond (ltb room k) (Err ShortMemory) (Ok k))
 
+-- the checks after the first, by the form of the list
 abbrev pub writeBy : List Shape → ℕ → ℕ → Option Family → Result ℕ Refusal
 writeBy ls n room None = Err BadNumber
 writeBy ls n room (Some f) = cond (allowed f ls) (sized (length (listBytes n f ls)) room) (Err NotStandard)
@@ -50,6 +53,7 @@ abbrev pub textBy : List Shape → ℕ → Option Family → List ℕ
 textBy ls n None = []
 textBy ls n (Some f) = listBytes n f ls
 
+-- the text of a list under any number
 abbrev pub textFor : List Shape → ℕ → List ℕ
 textFor ls n = textBy ls n (familyOf n)
 
