@@ -169,9 +169,10 @@ impl<'a> Words<'a> {
         }
     }
 
-    // The next word as an address.
+    // The next word as an address; where it is refused, it stays the next.
     pub fn address(&mut self) -> Result<u32, Stop>
-        ensures { λ r. ⌜ handed r (rest (now (self .exit))) ≡ addressOf (rest (now (self .entry))) ⌝ }
+        ensures value { λ r. ⌜ handed r (rest (now (self .exit))) ≡ addressOf (rest (now (self .entry))) ⌝ }
+        ensures stays { λ r. ⌜ Cases r (λ _. Unit {0}) (λ _. now (self .exit) ≡ now (self .entry)) ⌝ }
     {
         match self.peek() {
             None => Err(self.stop(Refusal::BadWord)),
@@ -185,10 +186,11 @@ impl<'a> Words<'a> {
         }
     }
 
-    // The next word as a number from `low` to `high`.
+    // The next word as a number from `low` to `high`; where it is refused, it stays the next.
     pub fn number(&mut self, low: u16, high: u16) -> Result<u16, Stop>
         ensures value { λ r. ⌜ handed r (rest (now (self .exit))) ≡ numberOf low high (rest (now (self .entry))) ⌝ }
         ensures bound { λ r. ⌜ Cases r (λ n. (low ≤ n) × (n ≤ high)) (λ _. Unit {0}) ⌝ }
+        ensures stays { λ r. ⌜ Cases r (λ _. Unit {0}) (λ _. now (self .exit) ≡ now (self .entry)) ⌝ }
     {
         match self.peek() {
             None => Err(self.stop(Refusal::BadWord)),
