@@ -1,4 +1,6 @@
 // Headers, the lines of an access list, and the first line that a header fits.
+#![tactic(auto)]
+
 pub mod fitting;
 pub mod header;
 pub mod line;

@@ -1,5 +1,7 @@
 // The book of a shelf: what each call answers, said of lists, headers and parts alone, and what
 // is promised of these answers.
+#![tactic(auto)]
+
 ghost use Rattle.book.specs.Promises.{BooksStand};
 
 pub mod setup;

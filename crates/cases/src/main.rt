@@ -1,5 +1,7 @@
 // Reads texts from standard input, each ended by a line `%`, or by `%-` where the text's last line end
 // does not belong to it, and prints for each what reading it gives.
+#![tactic(auto)]
+
 use acl::line::Line;
 use ios::read::read;
 use std::io::Read;

@@ -1,7 +1,7 @@
 -- The list and the headers stand around the first text line `=` of the input, and nowhere else. Assumes nothing.
 use Rattle.std.proofs.Common.{◌≡◌, ℕ, ◌+◌, Bool, true, false, cond, eqb, ◌⊎◌, List, [], ◌∷◌, ◌++◌, length, sym, refl, ap, ◌∙◌, subst, inl, inr, ⊎_elim, arith}
 use Rattle.std.proofs.lemmas.List.{take_at, drop_at, take_all, drop_all}
-use Rattle.std.proofs.lemmas.Bool.{true≢false, false≢true, eqb-true, eq-eqb, cond_true, cond_false}
+use Rattle.std.proofs.lemmas.Bool.{true≢false, false≢true, eqb-true, eq-eqb, cond-true, cond-false}
 use Rattle.words.specs.Lines.{returning, glued, text_lines, after_line}
 use Rattle.ios.specs.Grammar.{ends_in}
 use Rattle.ios.proofs.Steps.{either}
@@ -85,8 +85,8 @@ mark_line t e =
 line_ends_lem : (bs : List ℕ) → line bs ≡ [] → line_ends bs ≡ true
 line_ends_lem [] e = refl
 line_ends_lem (b ∷ bs) e =
-    either (eqb b 10) _ _ _ e (λ is _. cond_true (eqb b 10) _ _ is)
-    (λ off e. either (returning b bs) _ _ _ e (λ is _. cond_false (eqb b 10) _ _ off ∙ same bs ∙ is)
+    either (eqb b 10) _ _ _ e (λ is _. cond-true (eqb b 10) _ _ is)
+    (λ off e. either (returning b bs) _ _ _ e (λ is _. cond-false (eqb b 10) _ _ off ∙ same bs ∙ is)
     (λ _ e. let k : ◌≡◌ {A = ℕ} 0 1 = cc in absurd (omega arith))) where
       same : (bs : List ℕ) → cond (eqb b 13) (feeds bs) false ≡ returning b bs
       same [] = go (eqb b 13) where
@@ -100,7 +100,7 @@ line_mark : (b : ℕ) (bs : List ℕ) → line (b ∷ bs) ≡ 61 ∷ [] → is_m
 line_mark b bs e =
     either (eqb b 10) _ _ _ e (λ _ e. let k : ◌≡◌ {A = ℕ} 0 1 = cc in absurd (omega arith))
     (λ _ e. either (returning b bs) _ _ _ e (λ _ e. let k : ◌≡◌ {A = ℕ} 0 1 = cc in absurd (omega arith))
-    (λ _ e. let first : b ≡ 61 = cc in let nothing : line bs ≡ [] = cc in cond_true (eqb b 61) _ _ (eq-eqb b 61 first) ∙ line_ends_lem bs nothing))
+    (λ _ e. let first : b ≡ 61 = cc in let nothing : line bs ≡ [] = cc in cond-true (eqb b 61) _ _ (eq-eqb b 61 first) ∙ line_ends_lem bs nothing))
 
 -- no text line that starts in a text is `=`
 abbrev Clean : Bool → List ℕ → Type 0
@@ -170,7 +170,7 @@ here_same true b bs t e = go (eqb b 61) refl where
 
 -- one byte on
 mark_on : (starts : Bool) (b : ℕ) (bs : List ℕ) (n : ℕ) → here starts b bs ≡ false → mark_at (eqb b 10) bs ≡ n → mark_at starts (b ∷ bs) ≡ n + 1
-mark_on starts b bs n off e = cond_false (here starts b bs) _ _ off ∙ ap (λ k. k + 1) e
+mark_on starts b bs n off e = cond-false (here starts b bs) _ _ off ∙ ap (λ k. k + 1) e
 
 -- where no text line is `=`, none is found
 unmarked_at : (starts : Bool) (bs : List ℕ) → Clean starts bs → mark_at starts bs ≡ length bs
@@ -183,7 +183,7 @@ unmarked_at starts (b ∷ bs) c =
 -- the first one is found
 marked_at : (starts : Bool) (l t : List ℕ) → ends starts l ≡ true → Clean starts l → is_mark t ≡ true → mark_at starts (l ++ t) ≡ length l
 marked_at starts [] [] e c m = absurd (false≢true m)
-marked_at starts [] (b ∷ bs) e c m = cond_true (here starts b bs) _ _ (cond_true starts _ _ e ∙ m)
+marked_at starts [] (b ∷ bs) e c m = cond-true (here starts b bs) _ _ (cond-true starts _ _ e ∙ m)
 marked_at starts (b ∷ bs) t e c m =
     let k = clean_back starts b bs c in
     let at = mark_on starts b (bs ++ t) (length bs) (here_same starts b bs t e ∙ k.0) (marked_at (eqb b 10) bs t e k.1 m) in

@@ -1,7 +1,7 @@
 -- The parts of the input and the header lines are what Stands says. Assumes nothing.
 use Rattle.std.proofs.Common.{◌≡◌, ℕ, ◌<◌, ◌≤◌, Bool, true, false, cond, ltb, List, [], ◌∷◌, ◌++◌, map, length, None, Ok, Err, Option, sym, refl, ap, ◌∙◌, arith}
 use mathlib.Core.List.{map-append}
-use Rattle.std.proofs.lemmas.Bool.{false≢true, ltb-true, ltb-false, lt-ltb, le-ltb, eqb-true, cond_true, cond_false}
+use Rattle.std.proofs.lemmas.Bool.{false≢true, ltb-true, ltb-false, lt-ltb, le-ltb, eqb-true, cond-true, cond-false}
 use Rattle.acl.specs.declared.header.Header.{Header}
 use Rattle.words.specs.declared.part.Stop.{Stop}
 use Rattle.words.specs.Numbers.{number_in, before_dot, and_then, address_in}
@@ -43,7 +43,7 @@ ways line x e long silent found =
 
 -- what a text line of at most 256 bytes says
 short : (line : List ℕ) → length line ≤ 256 → header_line line ≡ cond (passes (words_at line 0)) Passed (found_header (header_of (rest_of line)))
-short line small = cond_false (ltb 256 (length line)) _ _ (le-ltb 256 (length line) small)
+short line small = cond-false (ltb 256 (length line)) _ _ (le-ltb 256 (length line) small)
 
 -- what a header that was read came from
 found_silent : (s : Step Header) → found_header s ≡ Passed → ⊥
@@ -99,7 +99,7 @@ silent line e = ways line Passed e
     (λ _ e. absurd (found_silent (header_of (rest_of line)) e))
 
 passed : (line : List ℕ) (ws : List (List ℕ)) → length line ≤ 256 → WordsText line ws → PassedText ws → header_line line ≡ Passed
-passed line ws small w p = short line small ∙ cond_true (passes (words_at line 0)) _ _ (text_passes p (words_at line 0) (sym (words_only 0 line ws w)))
+passed line ws small w p = short line small ∙ cond-true (passes (words_at line 0)) _ _ (text_passes p (words_at line 0) (sym (words_only 0 line ws w)))
 
 sound : (line : List ℕ) (h : Header) → header_line line ≡ Good h → (length line ≤ 256) × HeaderText (words line) h
 sound line h e = ways line (Good h) e
@@ -111,7 +111,7 @@ sound line h e = ways line (Good h) e
 complete : (line : List ℕ) (ws : List (List ℕ)) (h : Header) → length line ≤ 256 → WordsText line ws → HeaderText ws h → header_line line ≡ Good h
 complete line ws h small w t =
     let e = sym (words_only 0 line ws w) in
-    short line small ∙ cond_false (passes (words_at line 0)) _ _ (header_says ws h t (words_at line 0) e)
+    short line small ∙ cond-false (passes (words_at line 0)) _ _ (header_says ws h t (words_at line 0) e)
     ∙ ap found_header (header.takes ws h (text_form ws h t) (length line) (words_at line 0) e)
 
 bad : (line : List ℕ) (c : ℕ) → length line ≤ 256 → header_line line ≡ Bad c → BadAt line c
@@ -145,5 +145,5 @@ report_stands = record {
   sound = sound;
   complete = complete;
   bad = bad;
-  long = λ line h. cond_true (ltb 256 (length line)) _ _ (lt-ltb 256 (length line) h);
+  long = λ line h. cond-true (ltb 256 (length line)) _ _ (lt-ltb 256 (length line) h);
 }

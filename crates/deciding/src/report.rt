@@ -19,8 +19,7 @@ use acl::line::Line;
 use acl::terms::Action;
 use ios::outcome::{Fault, Reading};
 use ios::read::read;
-use std::alloc::Global;
-use std::fmt;
+use std::alloc::{AllocError, Global};
 use words::lines::TextLines;
 
 // The line that decides a header, if one does.
@@ -56,7 +55,7 @@ fn put_answer(
     lines: &[Line],
     t: usize,
     bytes: &[u8],
-) -> fmt::Result
+) -> Result<(), AllocError>
     requires { tally.old.permit + tally.old.deny + tally.old.bad + 1 < 2 ^ 64 }
     ensures text { OnOk result (string_bytes out.new ≡ string_bytes out.old ++ answer_by (map shape lines.now) t (header_line bytes.now)) }
     ensures count { OnOk result (tally.new ≡ noted (map shape lines.now) (header_line bytes.now) tally.old) }
@@ -71,7 +70,7 @@ fn put_answer(
 }
 
 // Prints the answers to all headers, and counts them.
-fn put_answers(out: &mut String, lines: &[Line], headers: &[u8]) -> Result<Tally, fmt::Error>
+fn put_answers(out: &mut String, lines: &[Line], headers: &[u8]) -> Result<Tally, AllocError>
     ensures text { OnOk result (string_bytes out.new ≡ string_bytes out.old ++ answers_from (map shape lines.now) 1 (text_lines headers.now)) }
     ensures count { IfOk result (λ t. t ≡ tally_of (map shape lines.now) (text_lines headers.now)) }
     ensures few { IfOk result (λ t. t.permit + t.deny + t.bad < 2 ^ 64) }
@@ -90,13 +89,13 @@ fn put_answers(out: &mut String, lines: &[Line], headers: &[u8]) -> Result<Tally
     Ok(tally)
 }
 
-fn put_refusal(out: &mut String, fault: Fault) -> fmt::Result
+fn put_refusal(out: &mut String, fault: Fault) -> Result<(), AllocError>
     ensures { OnOk result (string_bytes out.new ≡ string_bytes out.old ++ line_text (fault_text fault)) }
 {
     writeln!(out, "{fault}")
 }
 
-fn put_summary(out: &mut String, count: usize, tally: Tally) -> fmt::Result
+fn put_summary(out: &mut String, count: usize, tally: Tally) -> Result<(), AllocError>
     requires { tally.permit + tally.deny + tally.bad < 2 ^ 64 }
     ensures { OnOk result (string_bytes out.new ≡ string_bytes out.old ++ line_text (summary_text count tally)) }
 {
@@ -109,7 +108,7 @@ fn put_summary(out: &mut String, count: usize, tally: Tally) -> fmt::Result
 }
 
 // Prints the answers of a list to headers and the last line, or the list's refusal.
-fn put_report(out: &mut String, list: &[u8], headers: &[u8]) -> fmt::Result
+fn put_report(out: &mut String, list: &[u8], headers: &[u8]) -> Result<(), AllocError>
     ensures { OnOk result (string_bytes out.new ≡ string_bytes out.old ++ report_by (read_of list.now 1024) (text_of list.now).lines (text_lines headers.now)) }
 {
     let mut memory = [Line::blank(); 1024];
@@ -123,7 +122,7 @@ fn put_report(out: &mut String, list: &[u8], headers: &[u8]) -> fmt::Result
 }
 
 // The whole output for an input: a list, a text line `=`, and headers. It fails only for want of memory.
-pub fn report(heap: Global, input: &[u8]) -> Result<String, fmt::Error>
+pub fn report(heap: Global, input: &[u8]) -> Result<String, AllocError>
     ensures output { IfOk result (λ s. string_bytes s ≡ report_of input.now) }
     ensures stands { ReportStands }
 {

@@ -1,3 +1,5 @@
+#![tactic(auto)]
+
 ghost use Rattle.std.specs.Prelude.{◌≡◌};
 ghost use Rattle.acl.specs.Fits.{found_shape};
 ghost use Rattle.firmware.specs.Entry.{verdict_of, decided_of, entry_of, Roomy};

@@ -1,4 +1,6 @@
 // Reads a list, a text line `=` and headers from standard input, and prints what the list decides of each.
+#![tactic(auto)]
+
 use deciding::report::report;
 use std::io::Read;
 

@@ -1,4 +1,6 @@
 // Reads a numbered access list of Cisco IOS into the caller's line memory.
+#![tactic(auto)]
+
 pub mod entry;
 pub mod family;
 pub mod outcome;

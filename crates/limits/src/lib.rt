@@ -1,4 +1,6 @@
 // Tests of both sides of each limit, and of what memory holds afterwards.
+#![tactic(auto)]
+
 #[cfg(test)]
 mod fitting;
 #[cfg(test)]

@@ -1,5 +1,7 @@
 // The mathematics of stages, parts and diagrams: no engine code, but the theorems that the
 // engine's proof rests on, and what a piece asks of a bit.
+#![tactic(auto)]
+
 ghost use Rattle.model.specs.Rulings.{Ruling};
 ghost use Rattle.model.specs.Stands.{ReferencesStand, AllNodesStand, AllCountsStand, PruningStands};
 

@@ -1,5 +1,5 @@
 // Which of two headers comes first.
-ghost use Rattle.std.specs.Prelude.{if◌then◌else◌};
+ghost use Rattle.std.specs.Prelude.{MatchBool};
 ghost use Rattle.orders.specs.Meanings.{order_of, Before};
 
 use crate::order::Order;
@@ -7,7 +7,7 @@ use acl::header::{Header, WIDTH};
 
 // Whether one header is before another: it has 0 at the first place where they differ.
 pub fn is_before<O: Order>(order: &O, one: Header, other: Header) -> bool
-    ensures { if result then Before (order_of O.Order order.now) one other else (Before (order_of O.Order order.now) one other → ⊥) }
+    ensures { MatchBool result (Before (order_of O.Order order.now) one other) (Before (order_of O.Order order.now) one other → ⊥) }
 {
     for place in 0..WIDTH {
         let bit = order.bit_at(place) as u32;

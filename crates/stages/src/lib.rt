@@ -1,5 +1,7 @@
 // Lists under an order and a kind: the verdict of the first line that fits, which the last
 // stage gives too, and what holds of stages and parts.
+#![tactic(auto)]
+
 ghost use Rattle.std.specs.Prelude.{◌≡◌};
 ghost use Rattle.model.specs.Rulings.{verdict};
 ghost use Rattle.model.specs.Stands.{PruningStands};

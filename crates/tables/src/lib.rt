@@ -1,4 +1,6 @@
 // Tests of orders, kinds, blocks and pieces against tables.
+#![tactic(auto)]
+
 #[cfg(test)]
 mod cutting;
 #[cfg(test)]

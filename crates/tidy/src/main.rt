@@ -1,4 +1,6 @@
 // Reads a list from standard input and prints it in its canonical form, or its refusal.
+#![tactic(auto)]
+
 use std::io::{Read, Write};
 use tidying::tidied::tidied;
 

@@ -1,6 +1,6 @@
 -- The addresses that are read are just four decimals 0–255 joined by dots. Assumes nothing.
 use Rattle.std.proofs.Common.{◌≡◌, ℕ, suc, ◌+◌, ◌*◌, ◌≤◌, Bool, true, false, cond, List, [], ◌∷◌, ◌++◌, Some, None, decimal, Option, sym, refl, ap, ◌∙◌, ⊎_elim, arith}
-use Rattle.std.proofs.lemmas.Bool.{eq-eqb, ne_eqb, true≢false, cond_true, cond_false, cases_eq}
+use Rattle.std.proofs.lemmas.Bool.{eq-eqb, ne_eqb, true≢false, cond-true, cond-false, cases_eq}
 use Rattle.words.specs.Meaning.{AddressText}
 use Rattle.words.specs.Numbers.{digit, digits, number_in, before_dot, after_dot, and_then, octets_in, address_in}
 use Rattle.words.proofs.Decimal.{only, every, decimal_digits}
@@ -11,12 +11,12 @@ parted [] more e = let z : ◌≡◌ {A = ℕ} 0 1 = cc in absurd (omega arith)
 parted (b ∷ bs) more e =
     ⊎_elim (λ here.
     let on = eq-eqb b 46 here in
-    let rest : Some bs ≡ Some more = sym (cond_true _ _ _ on) ∙ e in
+    let rest : Some bs ≡ Some more = sym (cond-true _ _ _ on) ∙ e in
     let same : bs ≡ more = cc in
-    ap (λ x. x ∷ bs) here ∙ ap (λ xs. 46 ∷ xs) same ∙ ap (λ xs. xs ++ (46 ∷ more)) (sym (cond_true _ _ (b ∷ before_dot bs) on)))
+    ap (λ x. x ∷ bs) here ∙ ap (λ xs. 46 ∷ xs) same ∙ ap (λ xs. xs ++ (46 ∷ more)) (sym (cond-true _ _ (b ∷ before_dot bs) on)))
     (λ ne.
     let off = ne_eqb b 46 ne in
-    ap (λ xs. b ∷ xs) (parted bs more (sym (cond_false _ _ _ off) ∙ e)) ∙ ap (λ xs. xs ++ (46 ∷ more)) (sym (cond_false _ [] (b ∷ before_dot bs) off)))
+    ap (λ xs. b ∷ xs) (parted bs more (sym (cond-false _ _ _ off) ∙ e)) ∙ ap (λ xs. xs ++ (46 ∷ more)) (sym (cond-false _ [] (b ∷ before_dot bs) off)))
     (cases_eq b 46)
 
 -- a number with a dot after it is read, and r comes of what follows
@@ -80,13 +80,13 @@ before : (ds more : List ℕ) → digits ds ≡ true → before_dot (ds ++ (46 �
 before [] more e = refl
 before (b ∷ ds) more e =
     let p = both (digit b) (digits ds) e in
-    cond_false _ _ _ (ne_eqb b 46 (no_dot b p.0)) ∙ ap (λ xs. b ∷ xs) (before ds more p.1)
+    cond-false _ _ _ (ne_eqb b 46 (no_dot b p.0)) ∙ ap (λ xs. b ∷ xs) (before ds more p.1)
 
 after : (ds more : List ℕ) → digits ds ≡ true → after_dot (ds ++ (46 ∷ more)) ≡ Some more
 after [] more e = refl
 after (b ∷ ds) more e =
     let p = both (digit b) (digits ds) e in
-    cond_false _ _ _ (ne_eqb b 46 (no_dot b p.0)) ∙ after ds more p.1
+    cond-false _ _ _ (ne_eqb b 46 (no_dot b p.0)) ∙ after ds more p.1
 
 onward : (k v n : ℕ) (more : List ℕ) → n ≤ 255 → octets_in (suc k) v (decimal n ++ (46 ∷ more)) ≡ octets_in k (v * 256 + n) more
 onward k v n more small =

@@ -1,24 +1,24 @@
 -- An address, number by number: what stands before and after the first dot. Assumes nothing.
 use Rattle.std.proofs.Common.{◌≡◌, ℕ, zero, suc, ◌+◌, ◌-◌, ◌*◌, ◌^◌, ◌<◌, ◌≤◌, List, [], ◌∷◌, length, get_or, take, drop, Some, None, sym, refl, ap, ◌∙◌, arith}
-use Rattle.std.proofs.lemmas.Bool.{eq-eqb, ne_eqb, cond_true, cond_false}
+use Rattle.std.proofs.lemmas.Bool.{eq-eqb, ne_eqb, cond-true, cond-false}
 use Rattle.words.proofs.Digits.{chosen}
 use Rattle.words.specs.Numbers.{read_on, numeral, number_in, before_dot, after_dot, and_then, octets_in}
 
 before_is : (bs : List ℕ) (n : ℕ) → n ≤ length bs → ((k : ℕ) → k < n → get_or bs k 0 ≡ 46 → ⊥) → (n < length bs → get_or bs n 0 ≡ 46) → before_dot bs ≡ take n bs
 before_is [] zero le all found = refl
 before_is [] (suc n) le all found = refl
-before_is (b ∷ bs) zero le all found = cond_true _ _ _ (eq-eqb b 46 (found (omega arith)))
+before_is (b ∷ bs) zero le all found = cond-true _ _ _ (eq-eqb b 46 (found (omega arith)))
 before_is (b ∷ bs) (suc n) le all found =
-    cond_false _ _ _ (ne_eqb b 46 (all 0 (omega arith))) ∙ ap (λ xs. b ∷ xs) (before_is bs n (omega arith) (λ k h. all (suc k) (omega arith)) (λ h. found (omega arith)))
+    cond-false _ _ _ (ne_eqb b 46 (all 0 (omega arith))) ∙ ap (λ xs. b ∷ xs) (before_is bs n (omega arith) (λ k h. all (suc k) (omega arith)) (λ h. found (omega arith)))
 
 after_none : (bs : List ℕ) → ((k : ℕ) → k < length bs → get_or bs k 0 ≡ 46 → ⊥) → after_dot bs ≡ None
 after_none [] all = refl
-after_none (b ∷ bs) all = cond_false _ _ _ (ne_eqb b 46 (all 0 (omega arith))) ∙ after_none bs (λ k h. all (suc k) (omega arith))
+after_none (b ∷ bs) all = cond-false _ _ _ (ne_eqb b 46 (all 0 (omega arith))) ∙ after_none bs (λ k h. all (suc k) (omega arith))
 
 after_some : (bs : List ℕ) (n : ℕ) → n < length bs → ((k : ℕ) → k < n → get_or bs k 0 ≡ 46 → ⊥) → get_or bs n 0 ≡ 46 → after_dot bs ≡ Some (drop (suc n) bs)
 after_some [] n lt all found = absurd (omega arith)
-after_some (b ∷ bs) zero lt all found = cond_true _ _ _ (eq-eqb b 46 found)
-after_some (b ∷ bs) (suc n) lt all found = cond_false _ _ _ (ne_eqb b 46 (all 0 (omega arith))) ∙ after_some bs n (omega arith) (λ k h. all (suc k) (omega arith)) found
+after_some (b ∷ bs) zero lt all found = cond-true _ _ _ (eq-eqb b 46 found)
+after_some (b ∷ bs) (suc n) lt all found = cond-false _ _ _ (ne_eqb b 46 (all 0 (omega arith))) ∙ after_some bs n (omega arith) (λ k h. all (suc k) (omega arith)) found
 
 octets_more : (k v : ℕ) (bs : List ℕ) → 0 < k → octets_in k v bs ≡ and_then (number_in 0 255 (before_dot bs)) (λ n. and_then (after_dot bs) (λ more. octets_in (k - 1) (v * 256 + n) more))
 octets_more zero v bs h = absurd (omega arith)

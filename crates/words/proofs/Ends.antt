@@ -1,6 +1,6 @@
 -- Where a text line ends. Assumes nothing.
 use Rattle.std.proofs.Common.{◌≡◌, ℕ, zero, suc, ◌+◌, ◌-◌, ◌<◌, ◌≤◌, Bool, true, false, cond, eqb, List, [], ◌∷◌, length, get_or, take, drop, sym, refl, ap, ◌∙◌, arith, length-drop, get_or-drop, take_all, drop-drop}
-use Rattle.std.proofs.lemmas.Bool.{eq-eqb, ne_eqb, cond_true, cond_false}
+use Rattle.std.proofs.lemmas.Bool.{eq-eqb, ne_eqb, cond-true, cond-false}
 use Rattle.std.proofs.lemmas.List.{drop_all}
 use lib.Seq.{drop-length}
 use Rattle.words.specs.Lines.{returning, glued, text_lines, CutAt, after_line}
@@ -54,12 +54,12 @@ by_both (b ∷ c ∷ cs) (suc n) lt all at cr =
 -- what follows the line, with no end and with one
 none_after : (xs : List ℕ) → ((k : ℕ) → k < length xs → get_or xs k 0 ≡ 10 → ⊥) → after_line xs ≡ []
 none_after [] all = refl
-none_after (b ∷ bs) all = cond_false _ _ _ (ne_eqb b 10 (all 0 (omega arith))) ∙ none_after bs (λ k h. all (suc k) (omega arith))
+none_after (b ∷ bs) all = cond-false _ _ _ (ne_eqb b 10 (all 0 (omega arith))) ∙ none_after bs (λ k h. all (suc k) (omega arith))
 
 some_after : (xs : List ℕ) (n : ℕ) → n < length xs → ((k : ℕ) → k < n → get_or xs k 0 ≡ 10 → ⊥) → get_or xs n 0 ≡ 10 → after_line xs ≡ drop (suc n) xs
 some_after [] n lt all at = absurd (omega arith)
-some_after (b ∷ bs) zero lt all at = cond_true _ _ _ (eq-eqb b 10 at)
-some_after (b ∷ bs) (suc n) lt all at = cond_false _ _ _ (ne_eqb b 10 (all 0 (omega arith))) ∙ some_after bs n (omega arith) (λ k h. all (suc k) (omega arith)) at
+some_after (b ∷ bs) zero lt all at = cond-true _ _ _ (eq-eqb b 10 at)
+some_after (b ∷ bs) (suc n) lt all at = cond-false _ _ _ (ne_eqb b 10 (all 0 (omega arith))) ∙ some_after bs n (omega arith) (λ k h. all (suc k) (omega arith)) at
 
 module _ (text : List ℕ) (from stop : ℕ) (some : from < length text) (after : from ≤ stop) (inside : stop ≤ length text) (all : (k : ℕ) → from ≤ k → k < stop → get_or text k 0 ≡ 10 → ⊥) where
   all_after : (k : ℕ) → k < stop - from → get_or (drop from text) k 0 ≡ 10 → ⊥

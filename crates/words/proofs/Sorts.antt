@@ -1,17 +1,17 @@
 -- The sorts of words: a dot among the bytes, and what it rules out. Assumes nothing.
 use Rattle.std.proofs.Common.{◌≡◌, ℕ, ◌+◌, ◌*◌, ◌<◌, Bool, true, false, cond, eqb, List, [], ◌∷◌, length, get_or, drop, Some, None, Option, sym, refl, ap, ◌∙◌, ⊎_elim}
 use Rattle.std.proofs.lemmas.List.{drop_more}
-use Rattle.std.proofs.lemmas.Bool.{eq-eqb, ne_eqb, not-true, true≢false, cond_true, cond_false, cases_eq}
+use Rattle.std.proofs.lemmas.Bool.{eq-eqb, ne_eqb, not-true, true≢false, cond-true, cond-false, cases_eq}
 use Rattle.words.specs.declared.part.Part.{Part}
 use Rattle.words.specs.declared.part.Word.TheVariants.{Number, Address}
 use Rattle.words.specs.Numbers.{digit, digits, numeral, number_in, before_dot, after_dot, and_then, address_in, octets_in}
 use Rattle.words.specs.Cursor.{begins_with_digit, has_dot, well_sorted}
 
 pub dot_here : (bs : List ℕ) (i : ℕ) → i < length bs → get_or bs i 0 ≡ 46 → has_dot (drop i bs) ≡ true
-dot_here bs i lt e = ap has_dot (drop_more bs i 0 lt) ∙ cond_true _ _ _ (eq-eqb _ 46 e)
+dot_here bs i lt e = ap has_dot (drop_more bs i 0 lt) ∙ cond-true _ _ _ (eq-eqb _ 46 e)
 
 pub dot_later : (bs : List ℕ) (i : ℕ) → i < length bs → (get_or bs i 0 ≡ 46 → ⊥) → has_dot (drop i bs) ≡ has_dot (drop (i + 1) bs)
-dot_later bs i lt ne = ap has_dot (drop_more bs i 0 lt) ∙ cond_false _ _ _ (ne_eqb _ 46 ne)
+dot_later bs i lt ne = ap has_dot (drop_more bs i 0 lt) ∙ cond-false _ _ _ (ne_eqb _ 46 ne)
 
 unless : (t x : Bool) → x ≡ false → cond t false x ≡ false
 unless true x e = refl
@@ -29,8 +29,8 @@ second false x e = absurd (true≢false (sym e))
 dotted_digits : (bs : List ℕ) → has_dot bs ≡ true → digits bs ≡ false
 dotted_digits [] e = sym e
 dotted_digits (b ∷ bs) e =
-    ⊎_elim (λ here. cond_false _ _ _ (ap digit here))
-    (λ ne. never (digit b) _ (dotted_digits bs (sym (cond_false _ _ _ (ne_eqb b 46 ne)) ∙ e)))
+    ⊎_elim (λ here. cond-false _ _ _ (ap digit here))
+    (λ ne. never (digit b) _ (dotted_digits bs (sym (cond-false _ _ _ (ne_eqb b 46 ne)) ∙ e)))
     (cases_eq b 46)
 
 dotted : (bs : List ℕ) → has_dot bs ≡ true → numeral bs ≡ false
@@ -44,8 +44,8 @@ dotted (b ∷ c ∷ cs) e = unless (eqb b 48) _ (dotted_digits (b ∷ c ∷ cs) 
 none_after : (bs : List ℕ) → has_dot bs ≡ false → after_dot bs ≡ None
 none_after [] e = refl
 none_after (b ∷ bs) e =
-    ⊎_elim (λ here. absurd (true≢false (sym (cond_true _ _ _ (eq-eqb b 46 here)) ∙ e)))
-    (λ ne. let off = ne_eqb b 46 ne in cond_false _ _ _ off ∙ none_after bs (sym (cond_false _ _ _ off) ∙ e))
+    ⊎_elim (λ here. absurd (true≢false (sym (cond-true _ _ _ (eq-eqb b 46 here)) ∙ e)))
+    (λ ne. let off = ne_eqb b 46 ne in cond-false _ _ _ off ∙ none_after bs (sym (cond-false _ _ _ off) ∙ e))
     (cases_eq b 46)
 
 nothing : {A B : Type 0} (o : Option A) → and_then {B = B} o (λ (a : A). None) ≡ None
@@ -53,7 +53,7 @@ nothing None = refl
 nothing (Some a) = refl
 
 pub address_number : (low high : ℕ) (p : Part) → well_sorted (Address p) ≡ true → None ≡ number_in low high p.bytes.now
-address_number low high p e = sym (cond_false _ _ _ (dotted p.bytes.now (second (begins_with_digit p.bytes.now) _ e)))
+address_number low high p e = sym (cond-false _ _ _ (dotted p.bytes.now (second (begins_with_digit p.bytes.now) _ e)))
 
 pub number_address : (p : Part) → well_sorted (Number p) ≡ true → None ≡ address_in p.bytes.now
 number_address p e =

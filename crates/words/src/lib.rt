@@ -1,4 +1,6 @@
 // The text lines of a text, the words of a text line, and the numbers and addresses that words write.
+#![tactic(auto)]
+
 pub mod keyword;
 pub mod lines;
 pub mod numbers;

@@ -1,6 +1,6 @@
 // Nodes are found again by an index, made only where they are not there yet, and taken back from
 // the end.
-ghost use Rattle.std.specs.Prelude.{◌≡◌, ℕ, ◌+◌, ◌<◌, ◌≤◌, ◌≢◌, IfNone, if◌then◌else◌, MatchOption, slice_set};
+ghost use Rattle.std.specs.Prelude.{◌≡◌, ℕ, ◌+◌, ◌<◌, ◌≤◌, ◌≢◌, IfNone, MatchBool, MatchOption, slice_set};
 ghost use Rattle.acl.specs.Headers.{width};
 ghost use Rattle.model.specs.declared.node.Ref.TheVariants.{Node as At};
 ghost use Rattle.diagram.specs.Nodes.{table_of, Good, bucket, number, Sound};
@@ -12,7 +12,7 @@ use model::node::{Node, Ref};
 
 // Whether two nodes are alike.
 fn same_node(a: Node, b: Node) -> bool
-    ensures { if result then (a ≡ b) else (a ≢ b) }
+    ensures { MatchBool result (a ≡ b) (a ≢ b) }
 {
     a.place == b.place && a.low.is(b.low) && a.high.is(b.high)
 }

@@ -1,5 +1,5 @@
 // The calls on a table.
-ghost use Rattle.std.specs.Prelude.{◌≡◌, ℕ, ◌<◌, ◌≤◌, length, if◌then◌else◌, MatchOption, slice_index_or};
+ghost use Rattle.std.specs.Prelude.{◌≡◌, ℕ, ◌<◌, ◌≤◌, length, MatchBool, MatchOption, slice_index_or};
 ghost use Rattle.model.specs.declared.node.Ref.TheVariants.{Code};
 ghost use Rattle.diagram.specs.Cubes.{asked};
 ghost use Rattle.diagram.specs.Stores.{Whole, Grows, Fits, New, Stands, Lacks, laid_from};
@@ -65,7 +65,7 @@ impl Table {
 
     // Whether a reference is a code or one of the table's nodes.
     pub fn refers(&self, r: Ref) -> bool
-        ensures { if result then Refers self.now r else (Refers self.now r → ⊥) }
+        ensures { MatchBool result (Refers self.now r) (Refers self.now r → ⊥) }
     {
         match r {
             Ref::Code(_) => true,
@@ -89,7 +89,7 @@ impl Table {
 
     // Whether all of these refer to the table.
     fn refer(&self, roots: &[Ref]) -> bool
-        ensures { if result then ((j : ℕ) → j < length roots.now → Refers self.now (slice_index_or roots.now j (Code 0))) else (((j : ℕ) → j < length roots.now → Refers self.now (slice_index_or roots.now j (Code 0))) → ⊥) }
+        ensures { MatchBool result ((j : ℕ) → j < length roots.now → Refers self.now (slice_index_or roots.now j (Code 0))) (((j : ℕ) → j < length roots.now → Refers self.now (slice_index_or roots.now j (Code 0))) → ⊥) }
     {
         for i in 0..roots.len() {
             if !self.refers(roots[i]) {

@@ -7,7 +7,7 @@ use Rattle.stages.proofs.code_of.Goals as goal
 pub returns-in-None : goal.returns-in-None
 returns-in-None g c =
     let k = kind_of g.K.Kind c.args.kind.now in
-    c.code.ensures ∙ ap k.code (c.at-end.ensures ∙ none_found k c.args.lines.now c.args.header c.in-None.ensures)
+    c.code.ensures ∙ ap k.code (c.at_end.ensures ∙ none_found k c.args.lines.now c.args.header c.in-None.ensures)
 
 pub returns-in-Some : goal.returns-in-Some
 returns-in-Some g c =

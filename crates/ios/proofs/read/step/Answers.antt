@@ -1,10 +1,10 @@
 use Rattle.ios.proofs.Scans.{step_entry, step_many}
 use Rattle.ios.proofs.read.step.Goals as goal
 
-pub returns-then-state-ge-MOST-LINES : goal.returns-then-state-ge-MOST-LINES
-returns-then-state-ge-MOST-LINES c =
-    step_many c.args.state.now _ c.in-Ok.said c.in-Some.entry c.in-Ok.ensures c.in-Some.is c.if-state-ge-MOST-LINES.true c.requires.1
+pub returns-then-state-ge-MOST_LINES : goal.returns-then-state-ge-MOST_LINES
+returns-then-state-ge-MOST_LINES c =
+    step_many c.args.state.now _ c.in-Ok.said c.in-Some.entry c.in-Ok.ensures c.in-Some.is c.if-state-ge-MOST_LINES.true c.requires.1
 
-pub returns-else-state-ge-MOST-LINES : goal.returns-else-state-ge-MOST-LINES
-returns-else-state-ge-MOST-LINES c =
-    step_entry c.args.state.now _ c.in-Ok.said c.in-Some.entry c.in-Ok.ensures c.in-Some.is c.if-state-ge-MOST-LINES.false
+pub returns-else-state-ge-MOST_LINES : goal.returns-else-state-ge-MOST_LINES
+returns-else-state-ge-MOST_LINES c =
+    step_entry c.args.state.now _ c.in-Ok.said c.in-Some.entry c.in-Ok.ensures c.in-Some.is c.if-state-ge-MOST_LINES.false

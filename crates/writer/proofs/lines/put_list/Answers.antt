@@ -7,8 +7,8 @@ use Rattle.writer.proofs.lines.put_list.Goals as goal
 
 pub loop-line-preserved : goal.loop-line-preserved
 loop-line-preserved c = (
-  same (list_more c.args.number c.args.family c.args.lines.now c.loop-line.line-index _ c.line-item.is (omega arith)) (then c.loop-line.invariant.0 c.put-line-at.ensures.text),
-  omega (arith, c.put-line-at.ensures.short, c.loop-line.invariant.1),
+  same (list_more c.args.number c.args.family c.args.lines.now c.loop-line.line-index _ c.line-item.is (omega arith)) (then c.loop-line.invariant.0 c.put_line-at.ensures.text),
+  omega (arith, c.put_line-at.ensures.short, c.loop-line.invariant.1),
 )
 
 pub returns : goal.returns

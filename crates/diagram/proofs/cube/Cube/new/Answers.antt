@@ -22,11 +22,15 @@ loop-place-preserved c =
           (subst (Still asks p) (sym w.coming-is) (still_none asks p))
     ]
 
-pub invariant-of-result : goal.invariant-of-result
-invariant-of-result c =
+pub invariant_of-result : goal.invariant_of-result
+invariant_of-result c =
     let asks = c.args.asks in
     let next = c.loop-place.next in
     let was = c.loop-place.coming in
     let e : c.loop-place.place ≡ 0 = omega arith in
     let f : Filled asks next 0 was = subst (λ (k : ℕ). Filled asks next k was) e c.loop-place.invariant in
-    (λ p l. f.all_onward p (omega arith) l, (λ p l. f.all_inside p (omega arith) l, (∣ filled_quiet asks next was f ∣₁, tt)))
+    record {
+      onward = λ p l. f.all_onward p (omega arith) l;
+      inside = λ p l. f.all_inside p (omega arith) l;
+      quiet = ∣ filled_quiet asks next was f ∣₁;
+    }

@@ -40,8 +40,8 @@ returns-in-Some t c =
           skip_stands q k s s c.args.from c.args.f c.next_place-place.result c.in-Some.x c.next_place-place.ensures c.in-Some.ensures;
     }
 
-pub returns-in-err-y : goal.returns-in-err-y
-returns-in-err-y t c =
+pub returns-in_err-y-in-Wanted : goal.returns-in_err-y-in-Wanted
+returns-in_err-y-in-Wanted t c =
     let s = c.args.self.now in
     let q = asked c.args.cube.now.asks in
     let k = c.args.cube.now.code in
@@ -55,7 +55,7 @@ returns-in-err-y t c =
     let high = c.branches-low.result.1 in
     let a : q p ≡ Wanted true = c.in-Wanted.is ∙ ap Wanted c.if-bit.true in
     let u = c.lay.new.self in
-    let e = c.in-err-y.ensures in
+    let e = c.in_err-y-in-Wanted.ensures in
     record {
       whole = e.whole;
       level = e.level;
@@ -65,7 +65,7 @@ returns-in-err-y t c =
           skip_new q k s u c.args.from f p n
           (high_new q k s p f low high w l b s u (grows_refl s) (ap (λ r. meets r true) a) e.new);
       value =
-          rw c.from-residual.ensures
+          rw c.from_residual.ensures
           (skip_lacks q k s u c.args.from f p n
           (high_lacks q k s p f low high w l b s u (grows_refl s) (ap (λ r. meets r true) a) e.value));
     }
@@ -84,7 +84,7 @@ close-requires t c =
     let high = c.branches-low.result.1 in
     let a : q p ≡ Wanted true = c.in-Wanted.is ∙ ap Wanted c.if-bit.true in
     let u = c.lay.new.self in
-    let e = c.in-ok-y.ensures in
+    let e = c.in_ok-y-in-Wanted.ensures in
     record {
       whole = e.whole;
       level = e.level;
@@ -93,11 +93,11 @@ close-requires t c =
       under = under_more s.linked u.linked f e.grows.more c.requires.fits.under;
       low = fits_grows s u (p + 1) low e.grows b.low_fits;
       high = e.value.fits;
-      laid = one_laid q k s p f low high w l b u c.in-ok-y.y e.grows c.requires.fits.under a e.value;
+      laid = one_laid q k s p f low high w l b u c.in_ok-y-in-Wanted.y e.grows c.requires.fits.under a e.value;
     }
 
-pub returns-in-err-x : goal.returns-in-err-x
-returns-in-err-x t c =
+pub returns-in_err-x-in-Wanted : goal.returns-in_err-x-in-Wanted
+returns-in_err-x-in-Wanted t c =
     let s = c.args.self.now in
     let q = asked c.args.cube.now.asks in
     let k = c.args.cube.now.code in
@@ -111,7 +111,7 @@ returns-in-err-x t c =
     let high = c.branches-low.result.1 in
     let a : q p ≡ Wanted false = c.in-Wanted.is ∙ ap Wanted c.if-bit.false in
     let u = c.lay-else-bit.new.self in
-    let e = c.in-err-x.ensures in
+    let e = c.in_err-x-in-Wanted.ensures in
     record {
       whole = e.whole;
       level = e.level;
@@ -121,7 +121,7 @@ returns-in-err-x t c =
           skip_new q k s u c.args.from f p n
           (low_new q k s p f low high w l b u (ap (λ r. meets r false) a) e.new);
       value =
-          rw c.from-residual-in-err-x.ensures
+          rw c.from_residual-in_err-x-in-Wanted.ensures
           (skip_lacks q k s u c.args.from f p n
           (low_lacks q k s p f low high w l b u (ap (λ r. meets r false) a) e.value));
     }
@@ -140,7 +140,7 @@ close-requires-else-bit t c =
     let high = c.branches-low.result.1 in
     let a : q p ≡ Wanted false = c.in-Wanted.is ∙ ap Wanted c.if-bit.false in
     let u = c.lay-else-bit.new.self in
-    let e = c.in-ok-x.ensures in
+    let e = c.in_ok-x-in-Wanted.ensures in
     record {
       whole = e.whole;
       level = e.level;
@@ -149,11 +149,11 @@ close-requires-else-bit t c =
       under = under_more s.linked u.linked f e.grows.more c.requires.fits.under;
       low = e.value.fits;
       high = fits_grows s u (p + 1) high e.grows b.high_fits;
-      laid = zero_laid q k s p f low high w l b u c.in-ok-x.x e.grows c.requires.fits.under a e.value;
+      laid = zero_laid q k s p f low high w l b u c.in_ok-x-in-Wanted.x e.grows c.requires.fits.under a e.value;
     }
 
-pub returns-in-err-x-2 : goal.returns-in-err-x-2
-returns-in-err-x-2 t c =
+pub returns-in_err-x-in-Ignored : goal.returns-in_err-x-in-Ignored
+returns-in_err-x-in-Ignored t c =
     let s = c.args.self.now in
     let q = asked c.args.cube.now.asks in
     let k = c.args.cube.now.code in
@@ -167,7 +167,7 @@ returns-in-err-x-2 t c =
     let high = c.branches-low.result.1 in
     let a : q p ≡ Ignored = c.in-Ignored.is in
     let u = c.lay-in-Ignored.new.self in
-    let e = c.in-err-x-2.ensures in
+    let e = c.in_err-x-in-Ignored.ensures in
     record {
       whole = e.whole;
       level = e.level;
@@ -177,13 +177,13 @@ returns-in-err-x-2 t c =
           skip_new q k s u c.args.from f p n
           (low_new q k s p f low high w l b u (ap (λ r. meets r false) a) e.new);
       value =
-          rw c.from-residual-in-err-x-2.ensures
+          rw c.from_residual-in_err-x-in-Ignored.ensures
           (skip_lacks q k s u c.args.from f p n
           (low_lacks q k s p f low high w l b u (ap (λ r. meets r false) a) e.value));
     }
 
-pub returns-in-err-y-2 : goal.returns-in-err-y-2
-returns-in-err-y-2 t c =
+pub returns-in_err-y-in-Ignored : goal.returns-in_err-y-in-Ignored
+returns-in_err-y-in-Ignored t c =
     let s = c.args.self.now in
     let q = asked c.args.cube.now.asks in
     let k = c.args.cube.now.code in
@@ -197,9 +197,9 @@ returns-in-err-y-2 t c =
     let high = c.branches-low.result.1 in
     let a : q p ≡ Ignored = c.in-Ignored.is in
     let v = c.lay-in-Ignored.new.self in
-    let d = c.in-ok-x-2.ensures in
+    let d = c.in_ok-x-in-Ignored.ensures in
     let u = c.lay-in-Ignored-2.new.self in
-    let e = c.in-err-y-2.ensures in
+    let e = c.in_err-y-in-Ignored.ensures in
     record {
       whole = e.whole;
       level = e.level;
@@ -209,7 +209,7 @@ returns-in-err-y-2 t c =
           skip_new q k s u c.args.from f p n
           (both_new q k s p f low high w l b v u d.whole d.grows e.grows a d.new e.new);
       value =
-          rw c.from-residual-in-err-y-2.ensures
+          rw c.from_residual-in_err-y-in-Ignored.ensures
           (skip_lacks q k s u c.args.from f p n
           (high_lacks q k s p f low high w l b v u d.grows (ap (λ r. meets r true) a) e.value));
     }
@@ -228,11 +228,11 @@ close-requires-in-Ignored t c =
     let high = c.branches-low.result.1 in
     let a : q p ≡ Ignored = c.in-Ignored.is in
     let v = c.lay-in-Ignored.new.self in
-    let d = c.in-ok-x-2.ensures in
-    let x = c.in-ok-x-2.x in
+    let d = c.in_ok-x-in-Ignored.ensures in
+    let x = c.in_ok-x-in-Ignored.x in
     let u = c.lay-in-Ignored-2.new.self in
-    let e = c.in-ok-y-2.ensures in
-    let y = c.in-ok-y-2.y in
+    let e = c.in_ok-y-in-Ignored.ensures in
+    let y = c.in_ok-y-in-Ignored.y in
     let g = grows_trans s v u d.grows e.grows in
     let z = stands_grows v u (p + 1) (laid_from q k s (p + 1) low) x d.whole e.grows d.value in
     record {
@@ -248,8 +248,8 @@ close-requires-in-Ignored t c =
           (high_stands q k s p f low high w l b v u y d.grows e.value);
     }
 
-pub returns-in-ok-y : goal.returns-in-ok-y
-returns-in-ok-y t c =
+pub returns-in_ok-y-in-Wanted : goal.returns-in_ok-y-in-Wanted
+returns-in_ok-y-in-Wanted t c =
     let s = c.args.self.now in
     let q = asked c.args.cube.now.asks in
     let k = c.args.cube.now.code in
@@ -263,7 +263,7 @@ returns-in-ok-y t c =
     let high = c.branches-low.result.1 in
     let a : q p ≡ Wanted true = c.in-Wanted.is ∙ ap Wanted c.if-bit.true in
     let u = c.lay.new.self in
-    let e = c.in-ok-y.ensures in
+    let e = c.in_ok-y-in-Wanted.ensures in
     let z = c.close.new.self in
     let m = c.close.ensures in
     record {
@@ -277,8 +277,8 @@ returns-in-ok-y t c =
       value = closed_value q k s c.close.result u z c.args.from f p w e.grows c.requires.fits.under n m.value;
     }
 
-pub returns-in-ok-x : goal.returns-in-ok-x
-returns-in-ok-x t c =
+pub returns-in_ok-x-in-Wanted : goal.returns-in_ok-x-in-Wanted
+returns-in_ok-x-in-Wanted t c =
     let s = c.args.self.now in
     let q = asked c.args.cube.now.asks in
     let k = c.args.cube.now.code in
@@ -292,7 +292,7 @@ returns-in-ok-x t c =
     let high = c.branches-low.result.1 in
     let a : q p ≡ Wanted false = c.in-Wanted.is ∙ ap Wanted c.if-bit.false in
     let u = c.lay-else-bit.new.self in
-    let e = c.in-ok-x.ensures in
+    let e = c.in_ok-x-in-Wanted.ensures in
     let z = c.close-else-bit.new.self in
     let m = c.close-else-bit.ensures in
     record {
@@ -306,8 +306,8 @@ returns-in-ok-x t c =
       value = closed_value q k s c.close-else-bit.result u z c.args.from f p w e.grows c.requires.fits.under n m.value;
     }
 
-pub returns-in-ok-y-2 : goal.returns-in-ok-y-2
-returns-in-ok-y-2 t c =
+pub returns-in_ok-y-in-Ignored : goal.returns-in_ok-y-in-Ignored
+returns-in_ok-y-in-Ignored t c =
     let s = c.args.self.now in
     let q = asked c.args.cube.now.asks in
     let k = c.args.cube.now.code in
@@ -321,9 +321,9 @@ returns-in-ok-y-2 t c =
     let high = c.branches-low.result.1 in
     let a : q p ≡ Ignored = c.in-Ignored.is in
     let v = c.lay-in-Ignored.new.self in
-    let d = c.in-ok-x-2.ensures in
+    let d = c.in_ok-x-in-Ignored.ensures in
     let u = c.lay-in-Ignored-2.new.self in
-    let e = c.in-ok-y-2.ensures in
+    let e = c.in_ok-y-in-Ignored.ensures in
     let z = c.close-in-Ignored.new.self in
     let m = c.close-in-Ignored.ensures in
     let g = grows_trans s v u d.grows e.grows in

@@ -26,8 +26,8 @@ spread-requires c = record {
       omega (arith, c.trim.ensures.level);
 }
 
-pub invariant-of-self : goal.invariant-of-self
-invariant-of-self c = (∣ c.keep-to.ensures.whole ∣₁, (omega (arith, c.keep-to.ensures.level), tt))
+pub invariant_of-self : goal.invariant_of-self
+invariant_of-self c = record { whole = ∣ c.keep-to.ensures.whole ∣₁; kept = omega (arith, c.keep-to.ensures.level) }
 
 pub returns : goal.returns
 returns c = (

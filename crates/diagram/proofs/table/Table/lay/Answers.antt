@@ -7,8 +7,8 @@ use Rattle.diagram.proofs.table.Table.lay.Goals as goal
 pub trim-requires : goal.trim-requires
 trim-requires c = record { whole = whole_of c.args.self.now.store c.args.self.now.whole; past = c.args.self.now.kept }
 
-pub invariant-of-self : goal.invariant-of-self
-invariant-of-self c = (∣ c.lay_kept.ensures.whole ∣₁, (c.lay_kept.ensures.kept, tt))
+pub invariant_of-self : goal.invariant_of-self
+invariant_of-self c = record { whole = ∣ c.lay_kept.ensures.whole ∣₁; kept = c.lay_kept.ensures.kept }
 
 pub returns-in-None : goal.returns-in-None
 returns-in-None c =

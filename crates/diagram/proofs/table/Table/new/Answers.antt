@@ -2,5 +2,5 @@
 use Rattle.std.proofs.Common.{arith}
 use Rattle.diagram.proofs.table.Table.new.Goals as goal
 
-pub invariant-of-result : goal.invariant-of-result
-invariant-of-result c = (∣ c.new.ensures.whole ∣₁, (omega arith, tt))
+pub invariant_of-result : goal.invariant_of-result
+invariant_of-result c = record { whole = ∣ c.new.ensures.whole ∣₁; kept = omega arith }

@@ -7,14 +7,14 @@ use Rattle.orders.proofs.profile.Profile.make.Goals as goal
 pub loop-p-preserved : goal.loop-p-preserved
 loop-p-preserved c = (search rules, filled (λ (k : ℕ). get_or c.args.list.now k 0) c.loop-p.bits c.loop-p.p (omega arith) c.loop-p.invariant.1)
 
-pub invariant-of-result : goal.invariant-of-result
-invariant-of-result c =
+pub invariant_of-result : goal.invariant_of-result
+invariant_of-result c =
     let h = c.in-Some.ensures in
-    (turned c.args.list.now c.loop-p.bits c.in-Some.places h.0 h.1 (λ p lt. c.loop-p.invariant.1 p (omega arith)), tt)
+    record { sound = turned c.args.list.now c.loop-p.bits c.in-Some.places h.0 h.1 (λ p lt. c.loop-p.invariant.1 p (omega arith)) }
 
-pub returns-in-default : goal.returns-in-default
-returns-in-default c = record {
-  good = λ h. absurd (c.in-default.ensures (at_length c.args.list.now h));
+pub returns-in_default : goal.returns-in_default
+returns-in_default c = record {
+  good = λ h. absurd (c.in_default.ensures (at_length c.args.list.now h));
   bad = λ n p lt. read_low c.plain.result.bits p lt ∙ c.plain.ensures p lt;
 }
 
