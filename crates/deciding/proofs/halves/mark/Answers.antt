@@ -12,7 +12,7 @@ returns-then-is_mark c = record {
 pub loop-i-preserved : goal.loop-i-preserved
 loop-i-preserved c =
     elim c.else-starts.branch [
-      | else-starts-via-then-starts+else-is-mark w ↦ other_line _ c.loop-i.starts c.args.input.now c.loop-i.i c.loop-i-test.true c.loop-i.invariant w.if-is_mark.ensures
+      | else-starts-via-then-starts+else-is_mark w ↦ other_line _ c.loop-i.starts c.args.input.now c.loop-i.i c.loop-i-test.true c.loop-i.invariant w.if-is_mark.ensures
       | else-starts-via-else-starts w ↦ no_start _ c.loop-i.starts c.args.input.now c.loop-i.i c.loop-i-test.true c.loop-i.invariant w.if-starts.false
     ]
 
