@@ -1,8 +1,8 @@
 #!/usr/bin/env python3
 """Compares the proved reader with a second reader, written in Python from docs/TEXT.md, on generated texts.
 
-Use: rt check cases && scripts/compare_reading.py [COUNT] [SEED]
-It feeds COUNT texts to target/bin/cases and says how many answers differ; none should.
+Use: (cd crates/cases && rt run <stdin >/dev/null) && scripts/compare_reading.py [COUNT] [SEED]
+It feeds COUNT texts to crates/cases/out/cases and says how many answers differ; none should.
 """
 import random
 import re
@@ -233,7 +233,7 @@ def main():
     rng = random.Random(int(sys.argv[2]) if len(sys.argv) > 2 else 1)
     texts = [some_text(rng) for _ in range(count)]
     texts = [text for text in texts if b"%" not in text]
-    program = Path(__file__).resolve().parent.parent / "target" / "bin" / "cases"
+    program = Path(__file__).resolve().parent.parent / "crates" / "cases" / "out" / "cases"
     got = subprocess.run([program], input=b"".join(text + b"%\n" for text in texts), capture_output=True, check=True)
     answers = []
     for row in got.stdout.decode().splitlines():

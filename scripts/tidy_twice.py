@@ -1,8 +1,8 @@
 #!/usr/bin/env python3
 """Tidies generated lists twice: the second time nothing may change, and the list must stay the same.
 
-Use: rt check tidy && scripts/tidy_twice.py [COUNT] [SEED]
-It runs target/bin/tidy on COUNT lists and on what it printed for them, and compares the bytes; that the
+Use: (cd crates/tidy && rt run <stdin >/dev/null) && scripts/tidy_twice.py [COUNT] [SEED]
+It runs crates/tidy/out/tidy on COUNT lists and on what it printed for them, and compares the bytes; that the
 lists are the same it tells by the second reader of compare_reading.py.
 """
 import random
@@ -12,7 +12,7 @@ from pathlib import Path
 
 import compare_reading as second
 
-PROGRAM = Path(__file__).resolve().parent.parent / "target" / "bin" / "tidy"
+PROGRAM = Path(__file__).resolve().parent.parent / "crates" / "tidy" / "out" / "tidy"
 
 
 def tidy(text):

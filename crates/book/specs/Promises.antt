@@ -1,5 +1,5 @@
 -- What is promised of the book's answers, in words of headers, verdicts and parts. Assumes nothing.
-use Rattle.std.specs.Prelude.{◌≡◌, ℕ, ◌<◌, ◌≤◌, Bool, true, false, ◌≢◌, ◌⊎◌, ◌↔◌, List, ◌++◌, length, drop, Some, None, Ok, Err, Option, Result}
+use Rattle.std.specs.Prelude.{◌≡◌, ℕ, ◌<◌, ◌≤◌, Bool, true, false, ◌≢◌, ◌↔◌, List, ◌++◌, length, drop, Some, None, Ok, Err, Option, Result}
 use Rattle.acl.specs.declared.header.Header.{Header}
 use Rattle.acl.specs.declared.line.Line.{Line}
 use Rattle.acl.specs.declared.refusal.Refusal.{Refusal}

@@ -1,9 +1,8 @@
 -- Copies of old nodes in a store. Assumes nothing.
-use Rattle.std.proofs.Common.{◌≡◌, ℕ, suc, ◌+◌, ◌-◌, ◌<◌, ◌≤◌, Bool, true, false, cond, List, length, get_or, set, replicate, sym, refl, ap, ◌∙◌, subst, inl, inr, not-suc-le-zero, arith, get_or-set_other, get_or-set_same}
+use Rattle.std.proofs.Common.{◌≡◌, ℕ, suc, ◌+◌, ◌-◌, ◌<◌, Bool, true, false, cond, List, length, get_or, set, sym, refl, ap, ◌∙◌, subst, inl, inr, arith, get_or-set_other, get_or-set_same}
 use mathlib.Core.Path.{fun_ext}
 use mathlib.Core.Bool.{false≢true}
 use native.Mathlib.Decide.{ℕ_discrete, dec_le}
-use lib.ListN.{get_or-replicate}
 use Rattle.acl.specs.Headers.{width}
 use Rattle.model.specs.declared.node.Ref.{Ref}
 use Rattle.model.specs.declared.node.Ref.TheVariants.{Code, Node as At}
@@ -12,11 +11,9 @@ use Rattle.model.specs.Rows.{Bits}
 use Rattle.model.specs.Stages.{Stage}
 use Rattle.model.specs.Parts.{PartOf}
 use Rattle.model.specs.Diagram.{top, value, Reduced, part_at}
-use Rattle.model.proofs.Rows.{same_part}
 use Rattle.model.proofs.Diagram.{step_at, value_leaf, value_on}
-use Rattle.model.proofs.Laying.{value_grown}
 use Rattle.diagram.specs.declared.store.Store.{Store}
-use Rattle.diagram.specs.Nodes.{table_of, Under, Chained, Sound}
+use Rattle.diagram.specs.Nodes.{table_of, Under}
 use Rattle.diagram.specs.Stores.{nodes_of, value_in, Whole, Grows, Fits, New, Stands, joined}
 use Rattle.diagram.specs.Collecting.{IsMarked, ClosedFrom, Tidy, moved_to, Copied, CopiedTo, FromMarked}
 use Rattle.diagram.proofs.Reduces.{under_more, reduced}

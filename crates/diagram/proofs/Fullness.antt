@@ -1,17 +1,15 @@
 -- What a laying has made, told of the table: room just suffices, or just does not. Assumes nothing.
-use Rattle.std.proofs.Common.{◌≡◌, ℕ, ◌+◌, ◌-◌, ◌<◌, ◌≤◌, ◌≢◌, ◌⊎◌, List, map, length, sym, refl, ap, ◌∙◌, subst, inl, inr, arith}
+use Rattle.std.proofs.Common.{◌≡◌, ℕ, ◌<◌, List, map, sym, ap, ◌∙◌, subst, inl, inr, arith}
 use mathlib.Core.Path.{fun_ext}
 use native.Mathlib.Decide.{dec_lt}
 use lib.ListN.{length-map}
 use Rattle.acl.specs.Headers.{width}
-use Rattle.model.specs.declared.ask.Ask.{Ask}
 use Rattle.model.specs.declared.node.Ref.{Ref}
 use Rattle.model.specs.declared.node.Node.{Node}
-use Rattle.model.specs.Rows.{Bits}
 use Rattle.model.specs.Sets.{◌∈◌, AtMost, MoreThan, Either}
 use Rattle.model.specs.Stages.{Stage}
 use Rattle.model.specs.Parts.{Part, PartOf}
-use Rattle.model.specs.Diagram.{Reduced, value, part_at}
+use Rattle.model.specs.Diagram.{value, part_at}
 use Rattle.model.specs.Laying.{over}
 use Rattle.model.proofs.Images.{in_map}
 use Rattle.model.proofs.Nodes.{part_node, reached_known}
@@ -22,7 +20,7 @@ use Rattle.diagram.specs.declared.table.Table.{Table as NodeTable}
 use Rattle.diagram.specs.Cubes.{asked}
 use Rattle.diagram.specs.Nodes.{table_of, Under}
 use Rattle.diagram.specs.Stores.{nodes_of, value_in, Whole, Grows, New, Stands, Lacks, laid_from}
-use Rattle.diagram.specs.Tables.{nodes, Has, Refers, room, stage_of, NodeParts, stage_after, Unchanged, LaidOver, NoRoom}
+use Rattle.diagram.specs.Tables.{nodes, room, NodeParts, stage_after, LaidOver, NoRoom}
 use Rattle.diagram.proofs.Reduces.{reduced}
 use Rattle.diagram.proofs.Growing.{part_grows}
 use Rattle.diagram.proofs.Numbers.{below, in_below, below_in, distinct_below, length_below}

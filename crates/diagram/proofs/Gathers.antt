@@ -1,5 +1,5 @@
 -- What collecting leaves: the roots as they were, and just the parts of their functions. Assumes nothing.
-use Rattle.std.proofs.Common.{◌≡◌, ℕ, zero, suc, ◌+◌, ◌-◌, ◌<◌, ◌≤◌, Bool, true, false, ◌≢◌, ◌⊎◌, List, [], ◌∷◌, map, length, get_or, sym, refl, ap, ◌∙◌, subst, inl, inr, arith}
+use Rattle.std.proofs.Common.{◌≡◌, ℕ, zero, suc, ◌+◌, ◌-◌, ◌<◌, ◌≤◌, Bool, List, [], ◌∷◌, map, length, get_or, sym, refl, ap, ◌∙◌, subst, inl, inr, arith}
 use mathlib.Core.Path.{fun_ext}
 use native.Mathlib.Decide.{dec_lt}
 use lib.ListN.{length-map}
@@ -8,19 +8,19 @@ use Rattle.model.specs.declared.node.Ref.{Ref}
 use Rattle.model.specs.declared.node.Ref.TheVariants.{Code, Node as At}
 use Rattle.model.specs.declared.node.Node.{Node}
 use Rattle.model.specs.Rows.{Bits, splice}
-use Rattle.model.specs.Sets.{◌∈◌, CountIs}
+use Rattle.model.specs.Sets.{◌∈◌}
 use Rattle.model.specs.Stages.{Stage}
 use Rattle.model.specs.Parts.{Part, PartOf, PartOfSome}
-use Rattle.model.specs.Diagram.{Table, top, walk, value, part_at, Known, Reduced, Reached}
+use Rattle.model.specs.Diagram.{Table, walk, value, part_at, Known, Reduced, Reached}
 use Rattle.model.proofs.Images.{in_map, map_in, distinct_map}
 use Rattle.model.proofs.Diagram.{walk_stay, walk_splice, value_leaf}
 use Rattle.model.proofs.Nodes.{node_part, part_node, part_once, reached_known}
 use Rattle.diagram.specs.declared.store.Store.{Store}
 use Rattle.diagram.specs.declared.table.Table.{Table as NodeTable}
 use Rattle.diagram.specs.Nodes.{table_of, Under}
-use Rattle.diagram.specs.Stores.{nodes_of, value_in, Whole}
-use Rattle.diagram.specs.Collecting.{IsMarked, MarksAll, MarksReached, moved_to, Copied, CopiedTo, FromMarked}
-use Rattle.diagram.specs.Tables.{nodes, Has, Refers, room, stage_of, Collected}
+use Rattle.diagram.specs.Stores.{value_in, Whole}
+use Rattle.diagram.specs.Collecting.{IsMarked, MarksAll, MarksReached, moved_to, CopiedTo, FromMarked}
+use Rattle.diagram.specs.Tables.{nodes, Has, stage_of, Collected}
 use Rattle.diagram.proofs.Reduces.{reduced}
 use Rattle.diagram.proofs.Numbers.{below, in_below, below_in, distinct_below, length_below}
 

@@ -1,5 +1,5 @@
 -- What stands in a store stands in one that has grown. Assumes nothing.
-use Rattle.std.proofs.Common.{◌≡◌, ℕ, ◌<◌, ◌≤◌, sym, refl, ap, ◌∙◌, subst, arith}
+use Rattle.std.proofs.Common.{◌≡◌, ℕ, ◌<◌, ◌≤◌, refl, ap, ◌∙◌, arith}
 use mathlib.Core.Path.{fun_ext}
 use Rattle.acl.specs.Headers.{width}
 use Rattle.model.specs.declared.node.Ref.{Ref}
@@ -7,13 +7,13 @@ use Rattle.model.specs.declared.node.Ref.TheVariants.{Code, Node as At}
 use Rattle.model.specs.declared.node.Node.{Node}
 use Rattle.model.specs.Rows.{Bits}
 use Rattle.model.specs.Stages.{Stage}
-use Rattle.model.specs.Diagram.{top, value, part_at}
+use Rattle.model.specs.Diagram.{part_at}
 use Rattle.model.proofs.Rows.{same_part}
 use Rattle.model.proofs.Laying.{value_grown}
 use Rattle.diagram.specs.declared.store.Store.{Store}
-use Rattle.diagram.specs.Nodes.{table_of, Under}
+use Rattle.diagram.specs.Nodes.{Under}
 use Rattle.diagram.specs.Stores.{nodes_of, value_in, Whole, Grows, Fits, New}
-use Rattle.diagram.proofs.Reduces.{under_more, reduced, grown}
+use Rattle.diagram.proofs.Reduces.{reduced, grown}
 
 -- a reference that tests no place before q tests none before an earlier one
 pub fits_less : (s : Store) (p q : ℕ) (r : Ref) → p ≤ q → Fits s q r → Fits s p r

@@ -1,20 +1,18 @@
 -- What is laid over the branches makes what is laid over the whole, with the same new nodes and the same lack. Assumes nothing.
-use Rattle.std.proofs.Common.{◌≡◌, ℕ, ◌+◌, ◌-◌, ◌<◌, ◌≤◌, Bool, true, false, cond, Some, None, Option, sym, refl, ap, ◌∙◌, subst, arith, MatchOption}
+use Rattle.std.proofs.Common.{◌≡◌, ℕ, ◌+◌, ◌<◌, ◌≤◌, Bool, true, false, cond, Some, None, Option, sym, ap, ◌∙◌, subst, MatchOption}
 use Rattle.acl.specs.Headers.{width}
 use Rattle.model.specs.declared.ask.Ask.{Ask}
 use Rattle.model.specs.declared.ask.Ask.TheVariants.{Ignored, Wanted}
 use Rattle.model.specs.declared.node.Ref.{Ref}
-use Rattle.model.specs.declared.node.Ref.TheVariants.{Code, Node as At}
+use Rattle.model.specs.declared.node.Ref.TheVariants.{Code}
 use Rattle.model.specs.Rows.{Bits}
 use Rattle.model.specs.Stages.{Stage}
 use Rattle.model.specs.Parts.{Part, PartOf}
 use Rattle.model.specs.Laying.{meets}
-use Rattle.model.proofs.Diagram.{step_at, value_on}
 use Rattle.diagram.specs.declared.store.Store.{Store}
 use Rattle.diagram.specs.Nodes.{Under}
-use Rattle.diagram.specs.Stores.{nodes_of, value_in, Whole, Grows, New, Stands, Lacks, joined, laid_from, Branches}
+use Rattle.diagram.specs.Stores.{value_in, Whole, Grows, New, Stands, Lacks, joined, laid_from, Branches}
 use Rattle.diagram.specs.Layings.{Next}
-use Rattle.diagram.proofs.Reduces.{under_more, reduced}
 use Rattle.diagram.proofs.Skips.{laid_skip, laid_branch, laid_later, laid_grows, way, end_stands}
 use Rattle.diagram.proofs.Subparts.{sub_part, new_sub, lacks_sub, new_trans}
 use Rattle.diagram.proofs.Growing.{fits_less, value_grows}

@@ -1,5 +1,5 @@
 -- Notes stay right while nodes are added and notes are taken. Assumes nothing.
-use Rattle.std.proofs.Common.{◌≡◌, ℕ, ◌<◌, ◌≤◌, true, false, length, get_or, set, Some, None, sym, refl, ap, ◌∙◌, subst, arith, get_or-set_other, get_or-set_same}
+use Rattle.std.proofs.Common.{◌≡◌, ℕ, ◌<◌, true, false, length, get_or, set, Some, None, sym, ap, ◌∙◌, subst, arith, get_or-set_other, get_or-set_same}
 use native.Mathlib.Decide.{ℕ_discrete}
 use Rattle.model.specs.declared.ask.Ask.{Ask}
 use Rattle.model.specs.declared.node.Ref.{Ref}
@@ -9,7 +9,7 @@ use Rattle.diagram.specs.declared.store.Store.{Store}
 use Rattle.diagram.specs.declared.store.Past.{Past}
 use Rattle.diagram.specs.declared.store.Notes.{Notes}
 use Rattle.diagram.specs.Nodes.{Under}
-use Rattle.diagram.specs.Stores.{nodes_of, Whole, Grows, Fits, Stands, laid_from, Noted, Note}
+use Rattle.diagram.specs.Stores.{nodes_of, Whole, Grows, Stands, laid_from, Noted, Note}
 use Rattle.diagram.proofs.Reduces.{under_more}
 use Rattle.diagram.proofs.Growing.{fits_grows, value_grows}
 use Rattle.diagram.proofs.Skips.{laid_grows}

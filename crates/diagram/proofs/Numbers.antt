@@ -1,5 +1,5 @@
 -- The numbers below n. Assumes nothing.
-use Rattle.std.proofs.Common.{◌≡◌, ℕ, zero, suc, ◌<◌, ◌≤◌, ◌⊎◌, List, [], ◌∷◌, length, sym, refl, ap, ◌∙◌, subst, inl, inr, arith}
+use Rattle.std.proofs.Common.{◌≡◌, ℕ, zero, suc, ◌<◌, ◌⊎◌, List, [], ◌∷◌, length, refl, ap, inl, inr, arith}
 use native.Mathlib.Decide.{ℕ_discrete}
 use Rattle.model.specs.Sets.{◌∈◌, Distinct}
 

@@ -1,6 +1,6 @@
 -- That a store is whole is a fact with one proof at most, so that a table's type can hold it. Assumes nothing.
-use Rattle.std.proofs.Common.{◌≡◌, ℕ, ◌<◌, ◌≤◌, List}
-use mathlib.Core.HLevel.{Π_prop, ¬_prop}
+use Rattle.std.proofs.Common.{ℕ, List}
+use mathlib.Core.HLevel.{¬_prop}
 use mathlib.Core.Logic.{∥∥₁_elim}
 use native.Mathlib.Nat.{ℕ_set}
 use native.Mathlib.Bridge.{le_prop}

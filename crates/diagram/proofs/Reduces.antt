@@ -1,14 +1,14 @@
 -- A sound store is a reduced, ordered table without twins. Assumes nothing.
-use Rattle.std.proofs.Common.{◌≡◌, ℕ, ◌<◌, ◌≤◌, List, arith}
+use Rattle.std.proofs.Common.{ℕ, ◌<◌, ◌≤◌, List, arith}
 use Rattle.acl.specs.Headers.{width}
 use Rattle.model.specs.declared.node.Ref.{Ref}
 use Rattle.model.specs.declared.node.Ref.TheVariants.{Code, Node as At}
 use Rattle.model.specs.declared.node.Node.{Node}
-use Rattle.model.specs.Diagram.{Reduced, top}
+use Rattle.model.specs.Diagram.{Reduced}
 use Rattle.model.specs.Laying.{Grown}
 use Rattle.diagram.specs.declared.store.Store.{Store}
 use Rattle.diagram.specs.Nodes.{table_of, Under, Sound}
-use Rattle.diagram.specs.Stores.{nodes_of, Whole, Grows, Fits}
+use Rattle.diagram.specs.Stores.{nodes_of, Whole, Grows}
 
 -- a reference to an early node is one to a node
 pub under_more : (k e : ℕ) (r : Ref) → k ≤ e → Under k r → Under e r

@@ -12,14 +12,13 @@ use Rattle.model.specs.Rows.{Bits}
 use Rattle.model.specs.Diagram.{top}
 use Rattle.model.specs.Laying.{meets, in_from}
 use Rattle.model.proofs.Diagram.{value_from, value_leaf}
-use Rattle.model.proofs.Laying.{value_grown}
 use Rattle.diagram.specs.declared.store.Store.{Store}
 use Rattle.diagram.specs.Nodes.{Under}
 use Rattle.diagram.specs.Cubes.{asked, ignored, Onward, Inside, Quiet}
 use Rattle.diagram.specs.Stores.{nodes_of, value_in, Whole, Grows, Fits, Stands, joined, laid_from, Branches}
 use Rattle.diagram.specs.Layings.{Next}
 use Rattle.diagram.proofs.Growing.{value_grows}
-use Rattle.diagram.proofs.Reduces.{reduced, grown}
+use Rattle.diagram.proofs.Reduces.{reduced}
 
 -- where nothing is asked every bit will do
 met : (a : Ask) (b : Bool) → ignored a ≡ true → meets a b ≡ true

@@ -3,12 +3,11 @@ use Rattle.std.proofs.Common.{◌≡◌, ℕ, ◌<◌, ◌≤◌, Bool, true, fa
 use mathlib.Core.Path.{fun_ext}
 use native.Mathlib.Decide.{dec_lt}
 use Rattle.acl.specs.Headers.{width}
-use Rattle.model.specs.declared.node.Ref.TheVariants.{Node as At}
 use Rattle.model.specs.Rows.{Bits, splice, put}
 use Rattle.model.specs.Stages.{Stage}
 use Rattle.model.specs.Parts.{Part, PartOf, fixed}
 use Rattle.model.specs.Diagram.{part_at}
-use Rattle.model.proofs.Rows.{splice_low, splice_high, put_here, put_else, same_part}
+use Rattle.model.proofs.Rows.{splice_low, splice_high, put_here, put_else}
 use Rattle.diagram.specs.declared.store.Store.{Store}
 use Rattle.diagram.specs.Stores.{nodes_of, Whole, Grows, New, Lacks}
 use Rattle.diagram.proofs.Growing.{part_grows}

@@ -1,9 +1,9 @@
 -- What the walks find, told of the bits that they write. Assumes nothing.
-use Rattle.std.proofs.Common.{◌≡◌, ℕ, ◌-◌, ◌<◌, ◌≤◌, Bool, true, false, ◌≢◌, List, get_or, sym, refl, ap, ◌∙◌, arith}
+use Rattle.std.proofs.Common.{◌≡◌, ℕ, ◌-◌, ◌<◌, ◌≤◌, Bool, false, ◌≢◌, List, get_or, sym, ◌∙◌, arith}
 use Rattle.acl.specs.Headers.{width}
 use Rattle.model.specs.declared.node.Ref.{Ref}
 use Rattle.model.specs.Rows.{Bits, AgreeBelow, First}
-use Rattle.model.specs.Diagram.{value, first_from}
+use Rattle.model.specs.Diagram.{first_from}
 use Rattle.model.proofs.Diagram.{value_reads}
 use Rattle.diagram.specs.declared.store.Store.{Store}
 use Rattle.diagram.specs.Nodes.{Under}

@@ -8,7 +8,7 @@ use Rattle.model.specs.Rows.{Bits}
 use Rattle.model.specs.Parts.{PartOf}
 use Rattle.model.specs.Diagram.{top, value, part_at, Reached}
 use Rattle.diagram.specs.declared.store.Store.{Store}
-use Rattle.diagram.specs.Nodes.{table_of, Under, Good}
+use Rattle.diagram.specs.Nodes.{table_of, Good}
 use Rattle.diagram.specs.Stores.{nodes_of, value_in, Fits}
 
 -- the node is marked

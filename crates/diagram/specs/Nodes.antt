@@ -1,6 +1,6 @@
 -- Nodes in a row, and the index by which they are found again. This file names no struct with a ghost field.
 -- Assumes nothing.
-use Rattle.std.specs.Prelude.{◌≡◌, ℕ, ◌+◌, ◌-◌, ◌*◌, ◌%◌, ◌<◌, ◌≤◌, true, ◌≢◌, List, slice_index, slice_index_or}
+use Rattle.std.specs.Prelude.{◌≡◌, ℕ, ◌+◌, ◌-◌, ◌*◌, ◌%◌, ◌<◌, ◌≤◌, ◌≢◌, List, slice_index, slice_index_or}
 use Rattle.acl.specs.Headers.{width}
 use Rattle.model.specs.declared.node.Ref.{Ref}
 use Rattle.model.specs.declared.node.Ref.TheVariants.{Code, Node as At}

@@ -1,10 +1,9 @@
 -- What a store of nodes means, and what changes of it keep. Assumes nothing.
-use Rattle.std.specs.Prelude.{◌≡◌, ℕ, ◌+◌, ◌-◌, ◌<◌, ◌≤◌, Bool, true, false, cond, ◌≢◌, List, Some, None, Option, slice_index_or}
+use Rattle.std.specs.Prelude.{◌≡◌, ℕ, ◌+◌, ◌-◌, ◌<◌, ◌≤◌, true, false, cond, ◌≢◌, Some, None, slice_index_or}
 use Rattle.acl.specs.Headers.{width}
 use Rattle.model.specs.declared.ask.Ask.{Ask}
 use Rattle.model.specs.declared.node.Ref.{Ref}
 use Rattle.model.specs.declared.node.Ref.TheVariants.{Code, Node as At}
-use Rattle.model.specs.declared.node.Node.{Node}
 use Rattle.model.specs.Rows.{Bits}
 use Rattle.model.specs.Stages.{Stage}
 use Rattle.model.specs.Parts.{Part, PartOf}
@@ -13,7 +12,7 @@ use Rattle.model.specs.Laying.{in_from}
 use Rattle.diagram.specs.declared.store.Store.{Store}
 use Rattle.diagram.specs.declared.store.Past.{Past}
 use Rattle.diagram.specs.declared.store.Notes.{Notes}
-use Rattle.diagram.specs.Nodes.{blank, table_of, Under, Sound}
+use Rattle.diagram.specs.Nodes.{table_of, Under, Sound}
 
 -- the nodes of a store as a table, and the stage that a reference stands for
 abbrev pub nodes_of : Store → Table

@@ -1,9 +1,8 @@
 -- What a node table means, and what its calls answer. Assumes nothing.
-use Rattle.std.specs.Prelude.{◌≡◌, ℕ, ◌<◌, ◌≤◌, Bool, true, false, cond, ◌≢◌, List, map, length, Some, None, Ok, Err, Option, Result, nat_le, slice_index_or}
+use Rattle.std.specs.Prelude.{◌≡◌, ℕ, ◌<◌, ◌≤◌, Bool, cond, ◌≢◌, List, map, length, Some, None, Ok, Err, Option, Result, nat_le, slice_index_or}
 use Rattle.acl.specs.Headers.{width}
-use Rattle.model.specs.declared.ask.Ask.{Ask}
 use Rattle.model.specs.declared.node.Ref.{Ref}
-use Rattle.model.specs.declared.node.Ref.TheVariants.{Code, Node as At}
+use Rattle.model.specs.declared.node.Ref.TheVariants.{Code}
 use Rattle.model.specs.Rows.{Bits, First}
 use Rattle.model.specs.Sets.{AtMost, MoreThan, CountIs, Either, Tally}
 use Rattle.model.specs.Stages.{Stage}

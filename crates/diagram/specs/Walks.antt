@@ -1,13 +1,12 @@
 -- Walks over a store. Assumes nothing.
-use Rattle.std.specs.Prelude.{◌≡◌, ℕ, ◌<◌, ◌≤◌, Bool, true, false, ◌⊎◌, List, slice_index, slice_index_or}
+use Rattle.std.specs.Prelude.{◌≡◌, ℕ, ◌<◌, Bool, false, List, slice_index, slice_index_or}
 use Rattle.acl.specs.Headers.{width}
 use Rattle.model.specs.declared.node.Ref.{Ref}
-use Rattle.model.specs.declared.node.Ref.TheVariants.{Code, Node as At}
+use Rattle.model.specs.declared.node.Ref.TheVariants.{Node as At}
 use Rattle.model.specs.Rows.{Bits}
-use Rattle.model.specs.Diagram.{top, value, deep_from}
+use Rattle.model.specs.Diagram.{deep_from}
 use Rattle.diagram.specs.declared.store.Store.{Store}
-use Rattle.diagram.specs.Nodes.{Under}
-use Rattle.diagram.specs.Stores.{nodes_of, value_in, Fits}
+use Rattle.diagram.specs.Stores.{nodes_of}
 
 -- bits by place, as a row
 abbrev pub row_of : List Bool → Bits

@@ -1,5 +1,5 @@
 -- What the entry for C answers. Assumes nothing.
-use Rattle.std.specs.Prelude.{◌≡◌, ℕ, ◌+◌, List, Some, None, Ok, Err, Option, Result, ◌≢◌}
+use Rattle.std.specs.Prelude.{ℕ, ◌+◌, List, Some, None, Ok, Err, Option, Result, ◌≢◌}
 use Rattle.acl.specs.declared.header.Header.{Header}
 use Rattle.acl.specs.declared.refusal.Refusal.{Refusal}
 use Rattle.acl.specs.declared.terms.Action.{Action}

@@ -2,7 +2,6 @@
 use Rattle.std.specs.Prelude.{◌≡◌, ℕ, ◌+◌, ◌*◌, ◌≤◌}
 use Rattle.acl.specs.Terms.{action_number}
 use Rattle.acl.specs.declared.line.Line.{Line}
-use Rattle.kinds.specs.declared.heard.LineNumber.{LineNumber}
 use Rattle.kinds.specs.declared.heard.Heard.{Heard}
 use Rattle.kinds.specs.declared.kind.Kind as kind
 use Rattle.kinds.specs.declared.numbered.Decided.{Decided}

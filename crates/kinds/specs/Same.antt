@@ -1,6 +1,6 @@
 -- Line numbers are the same where their values are, and verdicts where their codes are. Assumes nothing.
 use Rattle.std.specs.Prelude.{◌≡◌, refl, ℕ, ◌+◌, ◌*◌, ◌≤◌}
-use Rattle.std.proofs.Common.{ap, subst, ◌∙◌, sym, arith}
+use Rattle.std.proofs.Common.{ap, subst, arith}
 use Rattle.std.proofs.Math.Bridge.{le_prop}
 use Rattle.acl.specs.declared.terms.Action.{Action}
 use Rattle.acl.specs.declared.terms.Action.TheVariants.{Deny, Permit}

@@ -8,8 +8,8 @@ use native.Mathlib.Nat.{add-zero, add-suc}
 use native.Mathlib.Decide.{ℕ_discrete}
 use native.Mathlib.Omega.{arith}
 use lib.Dec.{eqb, ltb}
-use borrow.Author.Tests.{lt-ltb, le-ltb, eq-eqb, ne_eqb, ltb-false, eqb-true}
-use Rattle.model.specs.Rows.{Bits, AgreeBelow, splice, put}
+use borrow.Author.Tests.{eq-eqb, ne_eqb, ltb-false, eqb-true}
+use Rattle.model.specs.Rows.{Bits, AgreeBelow, splice}
 use Rattle.model.specs.Stages.{Reads}
 use Rattle.model.specs.Parts.{fixed}
 use Rattle.model.specs.declared.node.Ref.{Ref}

@@ -1,5 +1,5 @@
 -- Diagrams: a table of nodes over w places, and what a reference into it means. Assumes nothing.
-use Rattle.std.specs.Prelude.{◌≡◌, ◌≢◌, Bool, true, false, cond, List, ℕ, zero, suc, ◌+◌, max, ◌<◌, ◌≤◌, eqb}
+use Rattle.std.specs.Prelude.{◌≡◌, ◌≢◌, Bool, true, false, cond, List, ℕ, zero, suc, ◌+◌, max, ◌<◌, eqb}
 use Rattle.model.specs.declared.node.Ref.{Ref}
 use Rattle.model.specs.declared.node.Ref.TheVariants.{Code as leaf, Node as node}
 use Rattle.model.specs.declared.node.Node.{Node}

@@ -1,8 +1,8 @@
 -- Parts of a stage, and when a list fits over a set of parts. Assumes nothing.
-use Rattle.std.specs.Prelude.{◌≡◌, ◌⊎◌, ◌≢◌, Bool, true, false, List, [], ◌∷◌, ℕ, ◌<◌}
+use Rattle.std.specs.Prelude.{◌≡◌, ◌⊎◌, ◌≢◌, true, false, List, [], ◌∷◌, ℕ, ◌<◌}
 use Rattle.model.specs.Rows.{Bits, splice, put}
-use Rattle.model.specs.Sets.{◌∈◌, CountIs, AtMost, MoreThan, Either}
-use Rattle.model.specs.Stages.{Stage, Layer, lay, lay_all, last_of}
+use Rattle.model.specs.Sets.{◌∈◌, CountIs, AtMost, Either}
+use Rattle.model.specs.Stages.{Stage, Layer, lay, last_of}
 
 -- what remains of a stage when the bits before p are fixed as in u: a function of the bits at p and after
 abbrev pub fixed : ℕ → Bits → Stage → Stage

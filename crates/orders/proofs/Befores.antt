@@ -1,5 +1,5 @@
 -- Which of two rows of bits comes first. Assumes nothing.
-use Rattle.std.proofs.Common.{◌≡◌, ℕ, ◌<◌, ◌≤◌, Bool, true, false, cond, not, sym, refl, ap, ◌∙◌, arith}
+use Rattle.std.proofs.Common.{◌≡◌, ℕ, ◌<◌, Bool, true, false, cond, not, sym, refl, ap, ◌∙◌, arith}
 use mathlib.Core.Bool.{beq, false≢true}
 use native.Mathlib.Decide.{dec_lt}
 use Rattle.model.specs.Rows.{Bits, AgreeBelow, First}

@@ -1,5 +1,5 @@
 -- The two ways to say that a list holds each number once. Assumes nothing.
-use Rattle.std.proofs.Common.{◌≡◌, ℕ, ◌<◌, List, length, get_or, sym, refl, ap, ◌∙◌, subst, arith}
+use Rattle.std.proofs.Common.{◌≡◌, ℕ, ◌<◌, List, get_or, sym, refl, ap, ◌∙◌}
 use native.Mathlib.Decide.{dec_lt}
 use Rattle.acl.specs.Headers.{width}
 use Rattle.orders.specs.Perms.{HoldsOnce, EachOnce}

@@ -1,5 +1,5 @@
 -- One try for a block's exponent after another. Assumes nothing.
-use Rattle.std.proofs.Common.{◌≡◌, ℕ, zero, suc, ◌-◌, ◌<◌, true, false, cond, sym, refl, ap, ◌∙◌, arith}
+use Rattle.std.proofs.Common.{◌≡◌, ℕ, zero, suc, ◌-◌, ◌<◌, true, false, cond, refl, ap, ◌∙◌, arith}
 use Rattle.pieces.specs.Blocks.{goes, largest}
 
 -- an exponent at which no block can start is passed over

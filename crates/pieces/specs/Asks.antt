@@ -1,5 +1,5 @@
 -- A piece, turned into what it asks of each bit of a header, and so of each place. Assumes nothing.
-use Rattle.std.specs.Prelude.{◌≡◌, ℕ, ◌-◌, ◌^◌, ◌<◌, Bool, true, false, List, get_or, slice_index_or}
+use Rattle.std.specs.Prelude.{◌≡◌, ℕ, ◌-◌, ◌<◌, Bool, true, false, List, get_or, slice_index_or}
 use Rattle.acl.specs.declared.terms.Protocol.{Protocol}
 use Rattle.acl.specs.declared.terms.Protocol.TheVariants.{Any, Number}
 use Rattle.acl.specs.declared.header.Header.{Header}

@@ -1,5 +1,5 @@
 -- Blocks and pieces of the code, and those that are still to come. Assumes nothing.
-use Rattle.std.specs.Prelude.{◌≡◌, ℕ, List, [], ◌∷◌, ◌++◌, map, Some, None, Option}
+use Rattle.std.specs.Prelude.{◌≡◌, List, [], ◌∷◌, ◌++◌, map, Some, None, Option}
 use Rattle.acl.specs.Shapes.{shape}
 use Rattle.pieces.specs.declared.block.Block.{Block}
 use Rattle.pieces.specs.declared.block.Blocks.{Blocks}

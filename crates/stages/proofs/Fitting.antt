@@ -1,5 +1,5 @@
 -- The parts of lists are counted, and a list fits over them or not. Assumes nothing.
-use Rattle.std.proofs.Common.{◌≡◌, ℕ, List, map, sym, subst}
+use Rattle.std.proofs.Common.{List, map, sym, subst}
 use Rattle.acl.specs.declared.line.Line.{Line}
 use Rattle.acl.specs.Headers.{width}
 use Rattle.model.specs.Sets.{◌∈◌}

@@ -1,8 +1,8 @@
 -- The line that is found decides. Assumes nothing.
-use Rattle.std.proofs.Common.{◌≡◌, ℕ, Bool, true, false, cond, List, [], ◌∷◌, map, Some, None, Option, sym, refl, ap, ◌∙◌, arith}
+use Rattle.std.proofs.Common.{◌≡◌, ℕ, Bool, true, false, cond, List, [], ◌∷◌, map, Some, None, refl, ap, arith}
 use Rattle.acl.specs.declared.header.Header.{Header}
 use Rattle.acl.specs.declared.line.Line.{Line}
-use Rattle.acl.specs.Shapes.{Shape, shape}
+use Rattle.acl.specs.Shapes.{shape}
 use Rattle.acl.specs.Fits.{line_fits, first_match}
 use Rattle.model.specs.Rulings.{verdict}
 use Rattle.kinds.specs.Kinds.{KindMeaning, heard_of}

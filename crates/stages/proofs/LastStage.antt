@@ -1,5 +1,5 @@
 -- The last stage of a list is first match. Assumes nothing.
-use Rattle.std.proofs.Common.{◌≡◌, ℕ, ◌+◌, ◌<◌, ◌≤◌, Bool, true, false, cond, ◌↔◌, List, [], ◌∷◌, map, sym, refl, ap, ◌∙◌, ap₂, arith}
+use Rattle.std.proofs.Common.{◌≡◌, ℕ, ◌+◌, Bool, true, false, cond, List, [], ◌∷◌, map, sym, refl, ap, ◌∙◌, ap₂, arith}
 use Rattle.acl.specs.declared.header.Header.{Header}
 use Rattle.acl.specs.declared.line.Line.{Line}
 use Rattle.acl.specs.Headers.{header_bit, wide, width, worth}
@@ -7,14 +7,14 @@ use Rattle.acl.specs.Shapes.{shape}
 use Rattle.acl.specs.Fits.{line_fits}
 use Rattle.acl.proofs.Rows.{made_wide}
 use Rattle.model.specs.Rows.{Bits}
-use Rattle.model.specs.Rulings.{verdict, Alike}
-use Rattle.model.specs.Stages.{Stage, Layer, lay_all, Reads, AllRead, LinesRead}
+use Rattle.model.specs.Rulings.{verdict}
+use Rattle.model.specs.Stages.{Stage, lay_all, Reads, AllRead, LinesRead}
 use Rattle.orders.specs.Meanings.{OrderMeaning, LawfulOrder, by_place, by_number, header_at}
 use Rattle.kinds.specs.Kinds.{KindMeaning, heard_of}
 use Rattle.pieces.specs.Pieces.{PieceShape, in_piece, pieces, held_by}
 use Rattle.pieces.proofs.Covers.{pieces_stand}
 use Rattle.stages.specs.Lists.{ruling, line_code, layer_of, layers_of, last_stage}
-use Rattle.stages.specs.Stands.{FirstMatch, StagesStand, AlikeStands}
+use Rattle.stages.specs.Stands.{StagesStand, AlikeStands}
 use Rattle.stages.proofs.Rounds.{row_agree, header_back}
 
 -- the header is in some of the pieces

@@ -1,5 +1,5 @@
 -- From headers to places and back. Assumes nothing.
-use Rattle.std.proofs.Common.{◌≡◌, ℕ, zero, suc, ◌+◌, ◌*◌, ◌<◌, ◌≤◌, Bool, true, sym, refl, ap, ◌∙◌, ap₂, arith}
+use Rattle.std.proofs.Common.{◌≡◌, ℕ, zero, suc, ◌+◌, ◌*◌, true, refl, ap, ◌∙◌, ap₂, arith}
 use Rattle.acl.specs.declared.header.Header.{Header}
 use Rattle.acl.specs.Headers.{header_bit, header_of, number_at, worth, wide, width}
 use Rattle.acl.proofs.Rows.{own}

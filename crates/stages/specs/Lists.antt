@@ -1,5 +1,5 @@
 -- Lists of lines: their verdicts, their stages and their parts, under an order and a kind. Assumes nothing.
-use Rattle.std.specs.Prelude.{◌≡◌, ℕ, List, map}
+use Rattle.std.specs.Prelude.{ℕ, List, map}
 use Rattle.acl.specs.declared.header.Header.{Header}
 use Rattle.acl.specs.declared.line.Line.{Line}
 use Rattle.acl.specs.Headers.{wide}

@@ -6,7 +6,7 @@ use Rattle.acl.specs.Headers.{header_bit, wide, width}
 use Rattle.model.specs.Rows.{Bits}
 use Rattle.model.specs.Sets.{CountIs}
 use Rattle.model.specs.Rulings.{verdict, Alike}
-use Rattle.model.specs.Stages.{Stage, Reads}
+use Rattle.model.specs.Stages.{Reads}
 use Rattle.model.specs.Parts.{PartOfSome}
 use Rattle.orders.specs.Meanings.{OrderMeaning, LawfulOrder, by_place, header_at}
 use Rattle.kinds.specs.Kinds.{KindMeaning}

@@ -1,10 +1,9 @@
-use Rattle.std.proofs.Common.{◌≡◌, ℕ, Bool, true, false, cond, List, [], ◌∷◌, Some, sym, ap, ◌∙◌}
-use Rattle.acl.specs.declared.terms.PortTest.{PortTest}
+use Rattle.std.proofs.Common.{◌≡◌, ℕ, Bool, List, [], ◌∷◌, Some, sym, ap, ◌∙◌}
 use Rattle.words.specs.declared.part.Word.{Word}
 use Rattle.words.specs.Words.{Spanned}
-use Rattle.words.specs.Cursor.{Rest, Step, passed, word_shown, Peeks}
+use Rattle.words.specs.Cursor.{word_shown, Peeks}
 use Rattle.words.specs.Keywords.{named}
-use Rattle.ios.specs.Parsing.{next_by, next_is, range_of, test_of}
+use Rattle.ios.specs.Parsing.{next_by, range_of}
 use Rattle.ios.proofs.Steps.{cond_off, cond_on}
 use Rattle.ios.proofs.sides.test.Goals as goal
 

@@ -1,6 +1,5 @@
 -- What is left is what the roots reach. Assumes nothing.
-use Rattle.std.proofs.Common.{◌≡◌, ℕ, ◌<◌, ◌≤◌, length, get_or, sym, subst, arith}
-use Rattle.model.specs.declared.node.Ref.{Ref}
+use Rattle.std.proofs.Common.{◌<◌, get_or, sym, subst, arith}
 use Rattle.model.specs.declared.node.Ref.TheVariants.{Code}
 use Rattle.diagram.specs.Nodes.{Under}
 use Rattle.diagram.specs.Tables.{Collected}

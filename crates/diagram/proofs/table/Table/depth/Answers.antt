@@ -1,5 +1,5 @@
 -- The walk gives the largest number of tests. Assumes nothing.
-use Rattle.std.proofs.Common.{ℕ, ◌≤◌, sym, subst, arith}
+use Rattle.std.proofs.Common.{ℕ, sym, subst, arith}
 use Rattle.diagram.specs.Tables.{Deepest}
 use Rattle.diagram.proofs.Fills.{get_or_filled}
 use Rattle.diagram.proofs.Props.{whole_of}

@@ -1,5 +1,4 @@
 -- A laying found room, or did not and is given back. Assumes nothing.
-use Rattle.std.proofs.Common.{arith}
 use Rattle.diagram.proofs.Props.{whole_of}
 use Rattle.diagram.proofs.Fullness.{laid_over, no_room}
 use Rattle.diagram.proofs.table.Table.lay.Goals as goal

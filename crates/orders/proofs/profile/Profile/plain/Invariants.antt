@@ -1,4 +1,4 @@
-use Rattle.std.proofs.Common.{◌≡◌, ℕ, ◌<◌, ◌≤◌, length, get_or}
+use Rattle.std.proofs.Common.{◌≡◌, ℕ, ◌<◌, length, get_or}
 use Rattle.orders.proofs.profile.Profile.plain.Given as goal
 
 abbrev pub invariant-loop-p : goal.invariant-loop-p

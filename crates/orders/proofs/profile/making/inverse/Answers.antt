@@ -1,5 +1,4 @@
-use Rattle.std.proofs.Common.{◌≡◌, ℕ, ◌<◌, length, get_or, arith, rules}
-use Rattle.orders.specs.Perms.{EachOnce}
+use Rattle.std.proofs.Common.{◌≡◌, ℕ, ◌<◌, get_or, arith}
 use Rattle.orders.proofs.Inverse.{none_yet, lacking, whole}
 use Rattle.orders.proofs.profile.making.inverse.Goals as goal
 

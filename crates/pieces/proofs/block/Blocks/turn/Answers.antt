@@ -1,5 +1,5 @@
 -- The second range takes the place of a first one that is done. Assumes nothing.
-use Rattle.std.proofs.Common.{◌≡◌, arith}
+use Rattle.std.proofs.Common.{arith}
 use Rattle.pieces.proofs.Yielding.{turned_on, all_done}
 use Rattle.pieces.proofs.block.Blocks.turn.Goals as goal
 

@@ -1,6 +1,6 @@
 -- The asks of a piece by place. Assumes nothing.
-use Rattle.std.proofs.Common.{◌≡◌, ℕ, ◌<◌, ◌≢◌, length, get_or, set, ap, ◌∙◌, ap₂, arith, length-set, get_or-set_other, get_or-set_same, below_more}
-use Rattle.acl.specs.Headers.{header_bit, width}
+use Rattle.std.proofs.Common.{◌<◌, ◌≢◌, length, ap, ◌∙◌, ap₂, arith, length-set, get_or-set_other, get_or-set_same, below_more}
+use Rattle.acl.specs.Headers.{header_bit}
 use Rattle.model.specs.declared.ask.Ask.TheVariants.{Ignored}
 use Rattle.orders.specs.Meanings.{order_of}
 use Rattle.pieces.specs.Asks.{ask_for}

@@ -1,5 +1,5 @@
 -- At first all pieces are left. Assumes nothing.
-use Rattle.std.proofs.Common.{◌++◌, map, ◌∙◌, ap₂}
+use Rattle.std.proofs.Common.{◌++◌, map, ap₂}
 use Rattle.acl.specs.Shapes.{shape}
 use Rattle.pieces.specs.Blocks.{blocks}
 use Rattle.pieces.specs.Pieces.{piece_of, crossed, pieces}
