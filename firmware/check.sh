@@ -2,12 +2,10 @@
 # Builds the static library and a C program that calls it, runs it on the samples, and compares.
 set -eu
 cd "$(dirname "$0")/.."
-rt staticlib firmware
-kit=$(dirname "$(dirname "$(rt doc)")")
+(cd crates/firmware && rt lib)
 work=target/firmware
 mkdir -p "$work"
-gcc -std=c11 -O2 -Wall -Wextra -Werror -Iinclude firmware/decide.c target/staticlib/libfirmware.a "$kit/lib/librattle_c.a" \
-    -pthread -o "$work/decide"
+gcc -std=c11 -O2 -Wall -Wextra -Werror -Iinclude firmware/decide.c crates/firmware/out/libfirmware.a -pthread -o "$work/decide"
 cp firmware/samples/* "$work"
 
 # a sample at each limit, too long to keep: name, how often a line stands, the line, the answer
