@@ -1,6 +1,6 @@
 -- What an action, a protocol and a port test stand for. Each case gets its number, and where it
 -- stands for a set of values, the test of that set. Assumes nothing.
-use Rattle.std.specs.Prelude.{ℕ, Bool, true, false, cond, not, ◌==◌, nat_le, nat_lt}
+use Rattle.std.specs.Prelude.{ℕ, Bool, true, false, cond, not, List, codes, ◌==◌, nat_le, nat_lt}
 use Rattle.acl.specs.declared.terms.Action.{Action}
 use Rattle.acl.specs.declared.terms.Action.TheVariants.{Deny, Permit}
 use Rattle.acl.specs.declared.terms.Protocol.{Protocol}
@@ -12,6 +12,11 @@ use Rattle.acl.specs.declared.terms.PortTest.TheVariants.{Any, Eq, Neq, Lt, Gt, 
 abbrev pub action_number : Action → ℕ
 action_number Deny = 0
 action_number Permit = 1
+
+-- an action as it is printed
+abbrev pub action_text : Action → List ℕ
+action_text Deny = codes "deny"
+action_text Permit = codes "permit"
 
 -- a case of an enum: its number, and which values it stands for
 pub record Case : Type 0 where

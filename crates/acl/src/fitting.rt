@@ -1,6 +1,6 @@
 ghost use Rattle.std.specs.Prelude.{◌≡◌, map};
 ghost use Rattle.acl.specs.Terms.{port_fits, protocol_fits};
-ghost use Rattle.acl.specs.Shapes.{shape, side_shape, blank_shape};
+ghost use Rattle.acl.specs.Shapes.{shape, side_shape, any_side, blank_shape};
 ghost use Rattle.acl.specs.Fits.{side_fits, line_fits, first_match, found_shape};
 
 use crate::header::Header;
@@ -35,6 +35,17 @@ impl Protocol {
 }
 
 impl Side {
+    // Every address and every port.
+    pub fn any() -> Side
+        ensures { side_shape result ≡ any_side }
+    {
+        Side {
+            address: 0,
+            wildcard: 0xffff_ffff,
+            ports: PortTest::Any,
+        }
+    }
+
     pub(crate) fn fits(self, address: u32, port: u16) -> bool
         ensures { result ≡ side_fits (side_shape self) address port }
     {
@@ -47,18 +58,13 @@ impl Line {
     pub fn blank() -> Line
         ensures { shape result ≡ blank_shape }
     {
-        let any = Side {
-            address: 0,
-            wildcard: 0xffff_ffff,
-            ports: PortTest::Any,
-        };
         Line {
             action: Action::Permit,
             number: 1,
             protocol: Protocol::Any,
             log: false,
-            source: any,
-            destination: any,
+            source: Side::any(),
+            destination: Side::any(),
         }
     }
 

@@ -1,10 +1,36 @@
 // The terms that a line is made of.
+ghost use Rattle.std.specs.Prelude.{◌≡◌, Some};
+ghost use Rattle.acl.specs.Terms.{action_number, action_text};
+
+use std::fmt;
 
 // What a line does with the headers that it fits.
 #[derive(Clone, Copy, Debug, PartialEq, Eq)]
 pub enum Action {
     Deny,
     Permit,
+}
+
+impl From<Action> for u16 {
+    ghost from_gives = { λ action n. n ≡ action_number action };
+
+    fn from(action: Action) -> u16 {
+        match action {
+            Action::Deny => 0,
+            Action::Permit => 1,
+        }
+    }
+}
+
+impl fmt::Display for Action {
+    ghost output = { λ a. Some (action_text a) };
+
+    fn fmt<W: fmt::Write>(&self, f: &mut fmt::Formatter<W>) -> fmt::Result {
+        match self {
+            Action::Deny => write!(f, "deny"),
+            Action::Permit => write!(f, "permit"),
+        }
+    }
 }
 
 // The protocols that a line fits: any, or one of 0 to 255.

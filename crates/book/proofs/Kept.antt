@@ -12,10 +12,6 @@ use Rattle.book.specs.Answers.{Taken, Listed, FirstDiffers, LoadSays, DecideSays
 use Rattle.book.specs.Promises.{Compared, Tested, Pruning, Decided, Promised}
 use Rattle.book.proofs.Apart.{not_both, prunes, idle_apart, prune_apart}
 
--- a result is not a refusal
-ok_not_err : {A : Type 0} {e : Refusal} {x : A} (r : Result A Refusal) → r ≡ Ok x → r ≡ Err e → ⊥
-ok_not_err r p q = let z : ◌≡◌ {A = ℕ} 0 1 = cc in absurd (omega arith)
-
 module _ {V : Type 0} (b : Book V) where
   -- a load is refused for want of room exactly when the list is full
   load_kept : (s : ℕ) (xs : List Line) (r : Result ℕ Refusal) → s ≤ 15 → b.slot s ≡ empty → length xs ≤ 1024 → LoadSays b s xs r
@@ -26,7 +22,7 @@ module _ {V : Type 0} (b : Book V) where
   load_kept s xs r h free len (inr (n, inr (m, inl (l, e)))) = absurd (omega arith)
   load_kept s xs r h free len (inr (n, inr (m, inr (l, inl (v, e))))) = (λ d. v, λ d. e)
   load_kept s xs r h free len (inr (n, inr (m, inr (l, inr (f, (c, e, i)))))) =
-      (λ d. absurd (ok_not_err r e d), λ v. absurd (not_both b.order b.kind b.size (Held b) xs f v))
+      (λ d. absurd (cc), λ v. absurd (not_both b.order b.kind b.size (Held b) xs f v))
 
   -- a loaded list decides a header
   decide_kept : (s : ℕ) (h : Header) (xs : List Line) (r : Result (ℕ × ℕ) Refusal) → s ≤ 15 → b.slot s ≡ holds xs → DecideSays b s h r → Decided b xs h r
@@ -46,7 +42,7 @@ module _ {V : Type 0} (b : Book V) where
   compared : (xs ys : List Line) (r : Result (Option Header) Refusal) → Compares (holds xs) (holds ys) r → Compared b xs ys r
   compared xs ys r (inl (al, e)) = record { equal_exactly = (λ d. al, λ d. e); otherwise = λ n. absurd (n e) }
   compared xs ys r (inr (h, e, d)) = record {
-    equal_exactly = (λ q. let z : ◌≡◌ {A = ℕ} 0 1 = cc in absurd (omega arith), λ al. absurd (d.here (al h d.real)));
+    equal_exactly = (λ q. absurd (cc), λ al. absurd (d.here (al h d.real)));
     otherwise = λ n. (h, e, d);
   }
 
@@ -62,11 +58,11 @@ module _ {V : Type 0} (b : Book V) where
   tested : (xs : List Line) (i : ℕ) (r : Result Bool Refusal)
       → (Idle (ruling b.kind) xs i × (r ≡ Ok true)) ⊎ (¬ Idle (ruling b.kind) xs i × (r ≡ Ok false)) → (r ≢ Err NoRoom) × Tested b xs i r
   tested xs i r (inl (y, e)) =
-      (λ d. ok_not_err r e d, record { idle_exactly = (λ q. y, λ q. e); otherwise = λ q. absurd (q e) })
+      (λ d. cc, record { idle_exactly = (λ q. y, λ q. e); otherwise = λ q. absurd (q e) })
   tested xs i r (inr (y, e)) = (
-    λ d. ok_not_err r e d,
+    λ d. cc,
     record {
-      idle_exactly = (λ q. let z : ◌≡◌ {A = ℕ} 0 1 = cc in absurd (omega arith), λ q. absurd (y q));
+      idle_exactly = (λ q. absurd (cc), λ q. absurd (y q));
       otherwise = λ q. e;
     },
   )
@@ -90,7 +86,7 @@ module _ {V : Type 0} (b : Book V) where
   prune_kept xs m r m' h k (inr (n, inl (l, e)), w) = absurd (omega arith)
   prune_kept xs m r m' h k (inr (n, inr (l, inl (v, e))), w) = ((λ d. v, λ d. e), λ d. absurd (d e))
   prune_kept xs m r m' h k (inr (n, inr (l, inr (f, (ys, p, e, c)))), w) = (
-    (λ d. absurd (ok_not_err r e d), λ v. absurd (prune_apart b xs ys f p v)),
+    (λ d. absurd (cc), λ v. absurd (prune_apart b xs ys f p v)),
     λ d.
         let t = pruning_stands (ruling b.kind) xs ys (prunes b.order b.kind b.size (HeldWith b xs) (reverse xs) [] ys p) in
         record { kept = ys; answer = e; memory = c; alike = t.alike; none_idle = t.none_idle },

@@ -3,6 +3,7 @@
 #![tactic(auto)]
 
 use acl::line::Line;
+use ios::outcome::Reading;
 use ios::read::read;
 use std::io::Read;
 use words::lines::TextLines;
@@ -12,15 +13,10 @@ fn show(rt: &HostRuntime, text: &[u8]) -> anyhow::Result<()> {
     match read(text, &mut memory) {
         Err(fault) => {
             let refusal = fault.refusal;
-            let number = refusal.number();
-            let line = fault.line;
-            let column = fault.column;
             let layer = refusal.layer();
-            println!(rt; "refused {number} {line} {column} {refusal:?} {layer:?}")?;
+            println!(rt; "{fault} {refusal:?} {layer:?}")?;
         }
-        Ok(reading) => {
-            let number = reading.number;
-            let count = reading.count;
+        Ok(Reading { number, count }) => {
             println!(rt; "list {number}, {count} lines")?;
             for line in memory.iter().take(count) {
                 println!(rt; "  {line:?}")?;
@@ -30,29 +26,27 @@ fn show(rt: &HostRuntime, text: &[u8]) -> anyhow::Result<()> {
     Ok(())
 }
 
-fn run(rt: &HostRuntime) -> anyhow::Result<()> {
+fn main(rt: HostRuntime) -> anyhow::Result<()> {
     let mut bytes = Vec::new(rt.alloc());
-    let mut stdin = rt.stdin();
-    let _ = stdin.read_to_end(&mut bytes)?;
+    let _ = rt.stdin().read_to_end(&mut bytes)?;
     let input = bytes.as_slice();
     let mut lines = TextLines::new(input);
     let mut from = 0;
-    for _ in 0..input.len() {
-        let at = input.len().saturating_sub(lines.rest().len());
-        let cut = match lines.next_line() {
-            None => break,
-            Some(b"%") => 0,
-            Some(b"%-") => 1,
-            Some(_) => continue,
+    let mut at: usize = 0;
+    while let Some(line) = lines.next() {
+        let next = input.len().saturating_sub(lines.rest().len());
+        let end = match line {
+            b"%" => Some(at),
+            b"%-" => Some(at.saturating_sub(1)),
+            _ => None,
         };
-        if let Some(text) = input.get(from..at.saturating_sub(cut)) {
-            show(rt, text)?;
+        if let Some(end) = end {
+            if let Some(text) = input.get(from..end) {
+                show(&rt, text)?;
+            }
+            from = next;
         }
-        from = input.len().saturating_sub(lines.rest().len());
+        at = next;
     }
     Ok(())
-}
-
-fn main(rt: HostRuntime) -> anyhow::Result<()> {
-    run(&rt)
 }

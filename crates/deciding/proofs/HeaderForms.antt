@@ -68,7 +68,7 @@ ending : (h : Header) → Every (λ r. closed h r r.words) (End h)
 ending h = record { whole = whole; begins = first_begins (good_end h) first; good = good_end h; takes = takes } where
   whole : Whole (λ r. closed h r r.words) (End h)
   whole z [] d r e = subst (End h []) (ok_parts h d (rest_by z []) r e).0 end
-  whole z (w ∷ ws) d r e = let k : ◌≡◌ {A = ℕ} 0 1 = cc in absurd (omega arith)
+  whole z (w ∷ ws) d r e = cc
 
   first : AtFirst (λ r. closed h r r.words)
   first z [] t e = never _ t e

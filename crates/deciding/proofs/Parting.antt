@@ -87,7 +87,7 @@ line_ends_lem [] e = refl
 line_ends_lem (b ∷ bs) e =
     either (eqb b 10) _ _ _ e (λ is _. cond-true (eqb b 10) _ _ is)
     (λ off e. either (returning b bs) _ _ _ e (λ is _. cond-false (eqb b 10) _ _ off ∙ same bs ∙ is)
-    (λ _ e. let k : ◌≡◌ {A = ℕ} 0 1 = cc in absurd (omega arith))) where
+    (λ _ e. cc)) where
       same : (bs : List ℕ) → cond (eqb b 13) (feeds bs) false ≡ returning b bs
       same [] = go (eqb b 13) where
         go : (x : Bool) → cond x false false ≡ false
@@ -98,8 +98,8 @@ line_ends_lem (b ∷ bs) e =
 -- a text line `=` is a mark
 line_mark : (b : ℕ) (bs : List ℕ) → line (b ∷ bs) ≡ 61 ∷ [] → is_mark (b ∷ bs) ≡ true
 line_mark b bs e =
-    either (eqb b 10) _ _ _ e (λ _ e. let k : ◌≡◌ {A = ℕ} 0 1 = cc in absurd (omega arith))
-    (λ _ e. either (returning b bs) _ _ _ e (λ _ e. let k : ◌≡◌ {A = ℕ} 0 1 = cc in absurd (omega arith))
+    either (eqb b 10) _ _ _ e (λ _ e. cc)
+    (λ _ e. either (returning b bs) _ _ _ e (λ _ e. cc)
     (λ _ e. let first : b ≡ 61 = cc in let nothing : line bs ≡ [] = cc in cond-true (eqb b 61) _ _ (eq-eqb b 61 first) ∙ line_ends_lem bs nothing))
 
 -- no text line that starts in a text is `=`

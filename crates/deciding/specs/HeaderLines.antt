@@ -1,12 +1,10 @@
 -- What a text line of the header part says: nothing, a header, or the column at which it is malformed. Assumes nothing.
-use Rattle.std.specs.Prelude.{ℕ, Bool, true, cond, List, [], ◌∷◌, length, Ok, Err, nat_lt}
+use Rattle.std.specs.Prelude.{ℕ, Bool, true, cond, List, [], ◌∷◌, length, Some, None, Ok, Err, Option, Result, nat_lt}
 use Rattle.acl.specs.declared.header.Header.{Header}
 use Rattle.acl.specs.declared.refusal.Refusal.TheVariants.{BadWord}
 use Rattle.words.specs.Words.{Spanned}
 use Rattle.words.specs.Cursor.{Rest, rest_of, Step, stop, onward, address_of, number_of}
 use Rattle.words.specs.Keywords.{comment}
-use Rattle.deciding.specs.declared.header_line.HeaderLine.{HeaderLine}
-use Rattle.deciding.specs.declared.header_line.HeaderLine.TheVariants.{Passed, Good, Bad}
 
 -- the header of these five numbers
 abbrev pub header_by : ℕ → ℕ → ℕ → ℕ → ℕ → Header
@@ -33,10 +31,10 @@ passes [] = true
 passes (w ∷ ws) = comment w.bytes
 
 -- a header, or the column of the stop
-abbrev pub found_header : Step Header → HeaderLine
-found_header (Ok p) = Good p.0
-found_header (Err s) = Bad s.column
+abbrev pub found_header : Step Header → Result (Option Header) ℕ
+found_header (Ok p) = Ok (Some p.0)
+found_header (Err s) = Err s.column
 
--- a text line over 256 bytes is malformed at column 256
-abbrev pub header_line : List ℕ → HeaderLine
-header_line line = cond (nat_lt 256 (length line)) (Bad 256) (cond (passes (rest_of line).words) Passed (found_header (header_of (rest_of line))))
+-- none where the text line says nothing; a text line over 256 bytes is malformed at column 256
+abbrev pub header_line : List ℕ → Result (Option Header) ℕ
+header_line line = cond (nat_lt 256 (length line)) (Err 256) (cond (passes (rest_of line).words) (Ok None) (found_header (header_of (rest_of line))))

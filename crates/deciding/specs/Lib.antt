@@ -1,5 +1,6 @@
 pub mod Halves
 pub mod HeaderLines
+pub mod Counts
 pub mod Answers
 pub mod Output
 pub mod Stands

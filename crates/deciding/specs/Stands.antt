@@ -1,5 +1,5 @@
 -- What the parts of the input and the header lines are, in the subject's words. Assumes nothing.
-use Rattle.std.specs.Prelude.{◌≡◌, ℕ, ◌<◌, ◌≤◌, true, List, [], ◌∷◌, ◌++◌, map, length, decimal, ◌≢◌}
+use Rattle.std.specs.Prelude.{◌≡◌, ℕ, ◌<◌, ◌≤◌, true, List, [], ◌∷◌, ◌++◌, map, length, Some, None, Ok, Err, decimal, ◌≢◌}
 use Rattle.acl.specs.declared.header.Header.{Header}
 use Rattle.words.specs.Lines.{text_lines}
 use Rattle.words.specs.Meaning.{AddressText}
@@ -7,7 +7,6 @@ use Rattle.words.specs.Words.{Spanned, words_at, bytes_of}
 use Rattle.words.specs.Cursor.{place_by}
 use Rattle.ios.specs.Grammar.{WordsText, PassedText, ends_in}
 use Rattle.ios.specs.Stands.{up_to}
-use Rattle.deciding.specs.declared.header_line.HeaderLine.TheVariants.{Passed, Good, Bad}
 use Rattle.deciding.specs.Halves.{list_part, header_part}
 use Rattle.deciding.specs.HeaderLines.{header_line}
 
@@ -59,9 +58,9 @@ pub record BadAt (line : List ℕ) (c : ℕ) : Type 0 where
 pub record ReportStands : Type 0 where
   pub parted : (input : List ℕ) → Parted input (list_part input) (header_part input)
   pub only : (input list headers : List ℕ) → Parted input list headers → (list ≡ list_part input) × (headers ≡ header_part input)
-  pub silent : (line : List ℕ) → header_line line ≡ Passed → (length line ≤ 256) × PassedText (map bytes_of (words_at line 0))
-  pub passed : (line : List ℕ) (ws : List (List ℕ)) → length line ≤ 256 → WordsText line ws → PassedText ws → header_line line ≡ Passed
-  pub sound : (line : List ℕ) (h : Header) → header_line line ≡ Good h → (length line ≤ 256) × HeaderText (map bytes_of (words_at line 0)) h
-  pub complete : (line : List ℕ) (ws : List (List ℕ)) (h : Header) → length line ≤ 256 → WordsText line ws → HeaderText ws h → header_line line ≡ Good h
-  pub bad : (line : List ℕ) (c : ℕ) → length line ≤ 256 → header_line line ≡ Bad c → BadAt line c
-  pub long : (line : List ℕ) → 256 < length line → header_line line ≡ Bad 256
+  pub silent : (line : List ℕ) → header_line line ≡ Ok None → (length line ≤ 256) × PassedText (map bytes_of (words_at line 0))
+  pub passed : (line : List ℕ) (ws : List (List ℕ)) → length line ≤ 256 → WordsText line ws → PassedText ws → header_line line ≡ Ok None
+  pub sound : (line : List ℕ) (h : Header) → header_line line ≡ Ok (Some h) → (length line ≤ 256) × HeaderText (map bytes_of (words_at line 0)) h
+  pub complete : (line : List ℕ) (ws : List (List ℕ)) (h : Header) → length line ≤ 256 → WordsText line ws → HeaderText ws h → header_line line ≡ Ok (Some h)
+  pub bad : (line : List ℕ) (c : ℕ) → length line ≤ 256 → header_line line ≡ Err c → BadAt line c
+  pub long : (line : List ℕ) → 256 < length line → header_line line ≡ Err 256

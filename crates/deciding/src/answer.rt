@@ -1,17 +1,46 @@
-use acl::line::Line;
+ghost use Rattle.std.specs.Prelude.{◌≡◌, ◌+◌, ◌^◌, ◌<◌};
 
-// What is printed for a header: the line that decides it, or that none does, or that it is malformed.
+use acl::line::Line;
+use acl::terms::Action;
+
+// What is printed for a header: the line that decides it, if one does, or where it is malformed.
 #[derive(Clone, Copy)]
 pub enum Answer {
-    Line(Line),
-    End,
-    Bad(usize, usize),
+    Decided(Option<Line>),
+    Bad { line: usize, column: usize },
 }
 
-// How many headers were permitted, denied and malformed.
+// How many headers were permitted, denied and malformed. Their sum fits.
 #[derive(Clone, Copy)]
 pub struct Tally {
     pub permit: usize,
     pub deny: usize,
     pub bad: usize,
+    ghost few: { permit + deny + bad < 2 ^ 64 },
+}
+
+// The last line of the output: how many lines the list has, and how the headers were answered.
+#[derive(Clone, Copy)]
+pub struct Summary {
+    pub lines: usize,
+    pub tally: Tally,
+}
+
+impl Tally {
+    ghost use Rattle.deciding.specs.Counts.{counts};
+    ghost use Rattle.deciding.specs.Output.{answer_noted};
+
+    // Counts one answer more; the end of a list denies.
+    pub(crate) fn note(&mut self, answer: Answer)
+        requires { self.old.permit + self.old.deny + self.old.bad + 1 < 2 ^ 64 }
+        ensures { counts self.new ≡ answer_noted answer (counts self.old) }
+    {
+        match answer {
+            Answer::Decided(found) => match found.map_or(Action::Deny, |line| line.action) {
+                Action::Permit => self.permit += 1,
+                Action::Deny => self.deny += 1,
+            },
+            Answer::Bad { .. } => self.bad += 1,
+        }
+    }
 }

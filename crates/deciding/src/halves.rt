@@ -15,10 +15,7 @@ pub struct Halves<'a> {
 fn is_mark(rest: &[u8]) -> bool
     ensures { result ≡ is_mark rest.now }
 {
-    match rest {
-        [b'='] | [b'=', b'\n', ..] | [b'=', b'\r', b'\n', ..] => true,
-        _ => false,
-    }
+    matches!(rest, [b'='] | [b'=', b'\n', ..] | [b'=', b'\r', b'\n', ..])
 }
 
 // Where the first text line `=` starts, or the input's length.
@@ -27,11 +24,11 @@ fn mark(input: &[u8]) -> usize
     ensures within { result ≤ length input.now }
 {
     let mut starts = true;
-    for i in 0..input.len() {
+    for (i, byte) in input.iter().enumerate() {
         if starts && is_mark(&input[i..]) {
             return i;
         }
-        starts = input[i] == b'\n';
+        starts = *byte == b'\n';
     }
     input.len()
 }
@@ -42,11 +39,11 @@ pub(crate) fn cut_halves<'a>(input: &'a [u8]) -> Halves<'a>
     ensures headers { result.headers.now ≡ header_part input.now }
     ensures stands { ReportStands }
 {
-    let at = mark(input);
-    let mut lines = TextLines::new(&input[at..]);
-    let _ = lines.next_line();
+    let (list, rest) = input.split_at(mark(input));
+    let mut lines = TextLines::new(rest);
+    let _ = lines.next();
     Halves {
-        list: &input[0..at],
+        list,
         headers: lines.rest(),
     }
 }

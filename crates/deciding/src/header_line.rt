@@ -6,14 +6,6 @@ use acl::header::Header;
 use words::part::Stop;
 use words::words::Words;
 
-// What a text line of the header part says.
-#[derive(Clone, Copy)]
-pub enum HeaderLine {
-    Passed,
-    Good(Header),
-    Bad(usize),
-}
-
 // Source and destination, dotted; protocol, source port and destination port.
 fn header(words: &mut Words<'_>) -> Result<Header, Stop>
     ensures { handed result (rest words.new) ≡ header_of (rest words.old) }
@@ -37,25 +29,20 @@ fn header(words: &mut Words<'_>) -> Result<Header, Stop>
 fn passes(words: &Words<'_>) -> bool
     ensures { result ≡ passes_by (rest words.now).words }
 {
-    match words.peek() {
-        None => true,
-        Some(word) => word.opens_comment(),
-    }
+    words.peek().is_none_or(|word| word.opens_comment())
 }
 
-// The header that a text line holds, or the column at which it is malformed.
-pub(crate) fn header_line(line: &[u8]) -> HeaderLine
+// The header that a text line holds, none where it says nothing, or the column at which it is malformed.
+pub(crate) fn header_line(line: &[u8]) -> Result<Option<Header>, usize>
     ensures { result ≡ header_line line.now }
 {
     if line.len() > 256 {
-        return HeaderLine::Bad(256);
+        return Err(256);
     }
     let mut words = Words::new(line);
     if passes(&words) {
-        return HeaderLine::Passed;
+        return Ok(None);
     }
-    match header(&mut words) {
-        Ok(header) => HeaderLine::Good(header),
-        Err(stop) => HeaderLine::Bad(stop.column),
-    }
+    let header = header(&mut words).map_err(|stop| stop.column)?;
+    Ok(Some(header))
 }

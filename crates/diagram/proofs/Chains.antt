@@ -1,5 +1,5 @@
 -- A store's index stays sound when a node is put at the end and when the last one is taken out. Assumes nothing.
-use Rattle.std.proofs.Common.{◌≡◌, ℕ, ◌+◌, ◌-◌, ◌<◌, ◌≤◌, ◌⊎◌, List, length, get_or, set, replicate, sym, refl, ap, ◌∙◌, subst, inl, inr, not-suc-le-zero, arith, get_or-set_other, get_or-set_same}
+use Rattle.std.proofs.Common.{◌≡◌, ℕ, ◌+◌, ◌<◌, ◌≤◌, ◌⊎◌, List, Option, Some, None, length, get_or, set, replicate, sym, refl, ap, ◌∙◌, subst, inl, inr, not-suc-le-zero, arith, get_or-set_other, get_or-set_same}
 use native.Mathlib.Decide.{ℕ_discrete}
 use lib.ListN.{get_or-replicate}
 use Rattle.acl.specs.Headers.{width}
@@ -34,10 +34,11 @@ good_same ns ns' k n a g = record {
 }
 
 -- a chain of the one row is one of the other
-pub chained_same : (ns ns' : List Node) (b e h : ℕ) → Agree ns ns' e → Chained ns b e h → Chained ns' b e h
-chained_same ns ns' b e h a c = record {
+pub chained_same : (ns ns' : List Node) (b e : ℕ) (h : Option ℕ) → Agree ns ns' e → Chained ns b e h → Chained ns' b e h
+chained_same ns ns' b e None a c = λ k l q. c k l (ap bucket (sym (a k l)) ∙ q)
+chained_same ns ns' b e (Some i) a c = record {
   within = c.within;
-  owner = λ p. (let l : h - 1 < e = omega (arith, c.within) in ap bucket (a (h - 1) l) ∙ c.owner p);
+  owner = ap bucket (a i c.within) ∙ c.owner;
   all = λ k l q. c.all k l (ap bucket (sym (a k l)) ∙ q);
 }
 
@@ -50,19 +51,16 @@ below_suc e k h = go (ℕ_discrete k e)
     go (no p) = inl (omega arith)
 
 -- the index of no nodes
-pub sound_none : (ns : List Node) (next : List ℕ) → Sound ns (replicate 4096 0) next 0
+pub sound_none : (ns : List Node) (next : List (Option ℕ)) → Sound ns (replicate 4096 None) next 0
 sound_none ns next = record {
   fits = omega arith;
   good = λ k l. absurd (not-suc-le-zero l);
   unique = λ j k l. absurd (not-suc-le-zero l);
-  heads = λ b l. subst (λ (x : ℕ). Chained ns b 0 x) (sym (get_or-replicate {A = ℕ} 4096 b 0 0 l)) none;
+  heads = λ b l. subst (λ (x : Option ℕ). Chained ns b 0 x) (sym (get_or-replicate {A = Option ℕ} 4096 b None None l)) (λ k m. absurd (not-suc-le-zero m));
   nexts = λ i l. absurd (not-suc-le-zero l);
 }
-  where
-    none : {b : ℕ} → Chained ns b 0 0
-    none = record { within = omega arith; owner = λ q. absurd (not-suc-le-zero q); all = λ k m. absurd (not-suc-le-zero m) }
 
-module _ (ns : List Node) (head next : List ℕ) (e b : ℕ) (n : Node) (s : Sound ns head next e) (room : e < 2048)
+module _ (ns : List Node) (head next : List (Option ℕ)) (e b : ℕ) (n : Node) (s : Sound ns head next e) (room : e < 2048)
     (ln : length ns ≡ 2048) (lh : length head ≡ 4096) (lx : length next ≡ 2048) (eb : b ≡ bucket n) (lb : b < 4096)
     (g : Good ns e n) (fresh : (k : ℕ) → k < e → table_of ns k ≡ n → ⊥) where
   -- the node that was put stands at e
@@ -91,61 +89,69 @@ module _ (ns : List Node) (head next : List ℕ) (e b : ℕ) (n : Node) (s : Sou
       go (inr p) (inl i) = absurd (fresh k i (sym (set_agree ns e n k i) ∙ sym q ∙ ap (table_of (set ns e n)) p ∙ here))
       go (inr p) (inr r) = p ∙ sym r
 
+  -- a chain of another bucket does not end at e
+  longer : (d : ℕ) (h : Option ℕ) → (d ≡ b → ⊥) → Chained (set ns e n) d e h → Chained (set ns e n) d (e + 1) h
+  longer d h p = go h
+    where
+      other : bucket (table_of (set ns e n) e) ≡ d → ⊥
+      other q = p (sym q ∙ ap bucket here ∙ sym eb)
+
+      go : (h : Option ℕ) → Chained (set ns e n) d e h → Chained (set ns e n) d (e + 1) h
+      go None c = λ k m q. last k q (below_suc e k m)
+        where
+          last : (k : ℕ) → bucket (table_of (set ns e n) k) ≡ d → (k < e) ⊎ (k ≡ e) → ⊥
+          last k q (inl l) = c k l q
+          last k q (inr z) = other (ap (λ j. bucket (table_of (set ns e n) j)) (sym z) ∙ q)
+      go (Some i) c = record { within = omega (arith, c.within); owner = c.owner; all = λ k m q. last k q (below_suc e k m) }
+        where
+          last : (k : ℕ) → bucket (table_of (set ns e n) k) ≡ d → (k < e) ⊎ (k ≡ e) → k ≤ i
+          last k q (inl l) = c.all k l q
+          last k q (inr z) = absurd (other (ap (λ j. bucket (table_of (set ns e n) j)) (sym z) ∙ q))
+
   -- the last node of each bucket
-  push_heads : (d : ℕ) → d < 4096 → Chained (set ns e n) d (e + 1) (get_or (set head b (e + 1)) d 0)
+  push_heads : (d : ℕ) → d < 4096 → Chained (set ns e n) d (e + 1) (get_or (set head b (Some e)) d None)
   push_heads d l = go (ℕ_discrete d b)
     where
-      first : Chained (set ns e n) b (e + 1) (e + 1)
-      first = record {
-        within = omega arith;
-        owner = λ q. (let z : e + 1 - 1 ≡ e = omega arith in ap bucket (ap (table_of (set ns e n)) z ∙ here) ∙ sym eb);
-        all = λ k m q. m;
-      }
+      first : Chained (set ns e n) b (e + 1) (Some e)
+      first = record { within = omega arith; owner = ap bucket here ∙ sym eb; all = λ k m q. omega arith }
 
-      longer : (d ≡ b → ⊥) → Chained (set ns e n) d e (get_or head d 0) → Chained (set ns e n) d (e + 1) (get_or head d 0)
-      longer p c = record { within = omega (arith, c.within); owner = c.owner; all = λ k m q. last k q (below_suc e k m) }
-        where
-          last : (k : ℕ) → bucket (table_of (set ns e n) k) ≡ d → (k < e) ⊎ (k ≡ e) → k < get_or head d 0
-          last k q (inl h) = c.all k h q
-          last k q (inr z) = absurd (p (sym q ∙ ap bucket (ap (table_of (set ns e n)) z ∙ here) ∙ sym eb))
-
-      go : Dec (d ≡ b) → Chained (set ns e n) d (e + 1) (get_or (set head b (e + 1)) d 0)
+      go : Dec (d ≡ b) → Chained (set ns e n) d (e + 1) (get_or (set head b (Some e)) d None)
       go (yes p) =
-          subst (λ (x : ℕ). Chained (set ns e n) x (e + 1) (get_or (set head b (e + 1)) x 0)) (sym p)
-          (subst (λ (x : ℕ). Chained (set ns e n) b (e + 1) x) (sym (get_or-set_same head b (e + 1) 0 (omega arith))) first)
+          subst (λ (x : ℕ). Chained (set ns e n) x (e + 1) (get_or (set head b (Some e)) x None)) (sym p)
+          (subst (λ (x : Option ℕ). Chained (set ns e n) b (e + 1) x) (sym (get_or-set_same head b (Some e) None (omega arith))) first)
       go (no p) =
-          subst (λ (x : ℕ). Chained (set ns e n) d (e + 1) x) (sym (get_or-set_other head b d (e + 1) 0 p))
-          (longer p (chained_same ns (set ns e n) d e (get_or head d 0) (set_agree ns e n) (s.heads d l)))
+          subst (λ (x : Option ℕ). Chained (set ns e n) d (e + 1) x) (sym (get_or-set_other head b d (Some e) None p))
+          (longer d (get_or head d None) p (chained_same ns (set ns e n) d e (get_or head d None) (set_agree ns e n) (s.heads d l)))
 
   -- and of each node the one before it in its bucket
   push_nexts : (i : ℕ) → i < e + 1
-      → Chained (set ns e n) (bucket (table_of (set ns e n) i)) i (get_or (set next e (get_or head b 0)) i 0)
+      → Chained (set ns e n) (bucket (table_of (set ns e n) i)) i (get_or (set next e (get_or head b None)) i None)
   push_nexts i l = go (below_suc e i l)
     where
       m : List Node
       m = set ns e n
 
-      x : List ℕ
-      x = set next e (get_or head b 0)
+      x : List (Option ℕ)
+      x = set next e (get_or head b None)
 
-      go : (i < e) ⊎ (i ≡ e) → Chained m (bucket (table_of m i)) i (get_or x i 0)
+      go : (i < e) ⊎ (i ≡ e) → Chained m (bucket (table_of m i)) i (get_or x i None)
       go (inl h) =
-          subst (λ (y : ℕ). Chained m (bucket (table_of m i)) i y) (sym (get_or-set_other next e i (get_or head b 0) 0 (omega arith)))
-          (subst (λ (y : Node). Chained m (bucket y) i (get_or next i 0)) (sym (set_agree ns e n i h))
-          (chained_same ns m (bucket (table_of ns i)) i (get_or next i 0) (λ j lj. set_agree ns e n j (omega arith)) (s.nexts i h)))
+          subst (λ (y : Option ℕ). Chained m (bucket (table_of m i)) i y) (sym (get_or-set_other next e i (get_or head b None) None (omega arith)))
+          (subst (λ (y : Node). Chained m (bucket y) i (get_or next i None)) (sym (set_agree ns e n i h))
+          (chained_same ns m (bucket (table_of ns i)) i (get_or next i None) (λ j lj. set_agree ns e n j (omega arith)) (s.nexts i h)))
       go (inr p) =
-          subst (λ (y : ℕ). Chained m (bucket (table_of m y)) y (get_or x y 0)) (sym p)
-          (subst (λ (y : ℕ). Chained m (bucket (table_of m e)) e y) (sym (get_or-set_same next e (get_or head b 0) 0 (omega arith)))
-          (subst (λ (y : ℕ). Chained m y e (get_or head b 0)) (eb ∙ sym (ap bucket here))
-          (chained_same ns m b e (get_or head b 0) (set_agree ns e n) (s.heads b lb))))
+          subst (λ (y : ℕ). Chained m (bucket (table_of m y)) y (get_or x y None)) (sym p)
+          (subst (λ (y : Option ℕ). Chained m (bucket (table_of m e)) e y) (sym (get_or-set_same next e (get_or head b None) None (omega arith)))
+          (subst (λ (y : ℕ). Chained m y e (get_or head b None)) (eb ∙ sym (ap bucket here))
+          (chained_same ns m b e (get_or head b None) (set_agree ns e n) (s.heads b lb))))
 
   -- so the index with one node more is sound
-  pub push_sound : Sound (set ns e n) (set head b (e + 1)) (set next e (get_or head b 0)) (e + 1)
+  pub push_sound : Sound (set ns e n) (set head b (Some e)) (set next e (get_or head b None)) (e + 1)
   push_sound = record { fits = omega arith; good = push_good; unique = push_unique; heads = push_heads; nexts = push_nexts }
 
 -- the index without the last node is sound
-pub pop_sound : (ns : List Node) (head next : List ℕ) (e b : ℕ) → Sound ns head next (e + 1) → length head ≡ 4096 → b < 4096
-    → b ≡ bucket (table_of ns e) → Sound ns (set head b (get_or next e 0)) next e
+pub pop_sound : (ns : List Node) (head next : List (Option ℕ)) (e b : ℕ) → Sound ns head next (e + 1) → length head ≡ 4096 → b < 4096
+    → b ≡ bucket (table_of ns e) → Sound ns (set head b (get_or next e None)) next e
 pop_sound ns head next e b s lh lb eb = record {
   fits = omega (arith, s.fits);
   good = λ k l. s.good k (omega arith);
@@ -154,26 +160,63 @@ pop_sound ns head next e b s lh lb eb = record {
   nexts = λ i l. s.nexts i (omega arith);
 }
   where
-    heads : (d : ℕ) → d < 4096 → Chained ns d e (get_or (set head b (get_or next e 0)) d 0)
+    shorter : (d : ℕ) (h : Option ℕ) → (d ≡ b → ⊥) → Chained ns d (e + 1) h → Chained ns d e h
+    shorter d None p c = λ k m. c k (omega arith)
+    shorter d (Some i) p c = record {
+      within = low (below_suc e i c.within);
+      owner = c.owner;
+      all = λ k m q. c.all k (omega arith) q;
+    }
+      where
+        low : (i < e) ⊎ (i ≡ e) → i < e
+        low (inl l) = l
+        low (inr z) = absurd (p (sym c.owner ∙ ap (λ j. bucket (table_of ns j)) z ∙ sym eb))
+
+    heads : (d : ℕ) → d < 4096 → Chained ns d e (get_or (set head b (get_or next e None)) d None)
     heads d l = go (ℕ_discrete d b)
       where
-        shorter : (d ≡ b → ⊥) → Chained ns d (e + 1) (get_or head d 0) → Chained ns d e (get_or head d 0)
-        shorter p c = record {
-          within = low (ℕ_discrete (get_or head d 0) (e + 1));
-          owner = c.owner;
-          all = λ k m q. c.all k (omega arith) q;
-        }
-          where
-            low : Dec (get_or head d 0 ≡ e + 1) → get_or head d 0 ≤ e
-            low (yes z) =
-                let y : get_or head d 0 - 1 ≡ e = omega arith in
-                absurd (p (sym (c.owner (omega arith)) ∙ ap bucket (ap (table_of ns) y) ∙ sym eb))
-            low (no z) = omega (arith, c.within)
-
-        go : Dec (d ≡ b) → Chained ns d e (get_or (set head b (get_or next e 0)) d 0)
+        go : Dec (d ≡ b) → Chained ns d e (get_or (set head b (get_or next e None)) d None)
         go (yes p) =
-            subst (λ (x : ℕ). Chained ns x e (get_or (set head b (get_or next e 0)) x 0)) (sym p)
-            (subst (λ (x : ℕ). Chained ns b e x) (sym (get_or-set_same head b (get_or next e 0) 0 (omega arith)))
-            (subst (λ (x : ℕ). Chained ns x e (get_or next e 0)) (sym eb) (s.nexts e (omega arith))))
+            subst (λ (x : ℕ). Chained ns x e (get_or (set head b (get_or next e None)) x None)) (sym p)
+            (subst (λ (x : Option ℕ). Chained ns b e x) (sym (get_or-set_same head b (get_or next e None) None (omega arith)))
+            (subst (λ (x : ℕ). Chained ns x e (get_or next e None)) (sym eb) (s.nexts e (omega arith))))
         go (no p) =
-            subst (λ (x : ℕ). Chained ns d e x) (sym (get_or-set_other head b d (get_or next e 0) 0 p)) (shorter p (s.heads d l))
+            subst (λ (x : Option ℕ). Chained ns d e x) (sym (get_or-set_other head b d (get_or next e None) None p))
+            (shorter d (get_or head d None) p (s.heads d l))
+
+-- What is left to look at in the chain of n's bucket: no node after i is n, and no node at all where nothing is left.
+abbrev pub Left : List Node → ℕ → Node → Option ℕ → Type 0
+Left ns e n None = (k : ℕ) → k < e → table_of ns k ≡ n → ⊥
+Left ns e n (Some i) = record {
+  within : i < e;
+  owner : bucket (table_of ns i) ≡ bucket n;
+  after : (k : ℕ) → k < e → i < k → table_of ns k ≡ n → ⊥;
+}
+
+-- how many nodes can be left
+abbrev pub left : Option ℕ → ℕ
+left None = 0
+left (Some i) = i + 1
+
+-- where i is not n, it is the one before i in the bucket
+pub left_next : (ns : List Node) (e : ℕ) (n : Node) (i : ℕ) (h : Option ℕ) → Left ns e n (Some i) → (table_of ns i ≡ n → ⊥)
+    → Chained ns (bucket (table_of ns i)) i h → Left ns e n h
+left_next ns e n i h w other c = go h c
+  where
+    later : (k : ℕ) → k < e → (k < i → ⊥) → table_of ns k ≡ n → ⊥
+    later k l m q = split (ℕ_discrete k i)
+      where
+        split : Dec (k ≡ i) → ⊥
+        split (yes z) = other (ap (table_of ns) (sym z) ∙ q)
+        split (no z) = w.after k l (omega arith) q
+
+    same : (k : ℕ) → table_of ns k ≡ n → bucket (table_of ns k) ≡ bucket (table_of ns i)
+    same k q = ap bucket q ∙ sym w.owner
+
+    go : (h : Option ℕ) → Chained ns (bucket (table_of ns i)) i h → Left ns e n h
+    go None c = λ k l q. later k l (λ m. c k m (same k q)) q
+    go (Some j) c = record {
+      within = omega (arith, c.within, w.within);
+      owner = c.owner ∙ w.owner;
+      after = λ k l m q. later k l (λ x. omega (arith, c.all k x (same k q))) q;
+    }

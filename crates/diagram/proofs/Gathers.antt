@@ -18,7 +18,7 @@ use Rattle.model.proofs.Nodes.{node_part, part_node, part_once, reached_known}
 use Rattle.diagram.specs.declared.store.Store.{Store}
 use Rattle.diagram.specs.declared.table.Table.{Table as NodeTable}
 use Rattle.diagram.specs.Nodes.{table_of, Under}
-use Rattle.diagram.specs.Stores.{value_in, Whole}
+use Rattle.diagram.specs.Stores.{value_in}
 use Rattle.diagram.specs.Collecting.{IsMarked, MarksAll, MarksReached, moved_to, CopiedTo, FromMarked}
 use Rattle.diagram.specs.Tables.{nodes, Has, stage_of, Collected}
 use Rattle.diagram.proofs.Reduces.{reduced}
@@ -74,11 +74,11 @@ module _ {w : ℕ} {In : ℕ → Type 0} {t : Table} (red : Reduced w In t) wher
 
 module _ (t t' : NodeTable) (s : Store) (first marks : List Bool) (to roots roots' : List Ref)
     (rows : s.nodes ≡ t.store.nodes) (level : s.linked ≡ t.end.at) (capped : s.cap ≡ t.store.cap)
-    (w : Whole s) (w' : Whole t'.store) (flush : t'.end.at ≡ t'.store.linked) (capped' : t'.store.cap ≡ s.cap)
+    (flush : t'.end.at ≡ t'.store.linked) (capped' : t'.store.cap ≡ s.cap)
     (refer : (j : ℕ) → j < length roots → Under s.linked (get_or roots j (Code 0)))
     (marked : MarksAll roots first) (more : (k : ℕ) → IsMarked first k → IsMarked marks k)
-    (reach : MarksReached s.nodes first marks)
-    (copied : CopiedTo s.nodes t'.store marks to s.linked) (from : FromMarked s.nodes t'.store marks s.linked)
+    (reach : MarksReached s first marks)
+    (copied : CopiedTo s t'.store marks to s.linked) (from : FromMarked s t'.store marks s.linked)
     (moved : (j : ℕ) → j < length roots → get_or roots' j (Code 0) ≡ moved_to to (get_or roots j (Code 0))) where
   -- a reference stands for the same in the store and in the table
   in_table : (r : Ref) → value_in s r ≡ stage_of t r
@@ -92,7 +92,7 @@ module _ (t t' : NodeTable) (s : Store) (first marks : List Bool) (to roots root
           → Under t'.store.linked (moved_to to (get_or roots j (Code 0))) × ((v : Bits) → stage_of t' (moved_to to (get_or roots j (Code 0))) v ≡ stage_of t (get_or roots j (Code 0)) v)
       go (Code c) e u =
           subst (λ (x : Ref). Under t'.store.linked (moved_to to x) × ((v : Bits) → stage_of t' (moved_to to x) v ≡ stage_of t x v)) (sym e)
-          (tt, λ v. value_leaf (reduced t'.store w') c v ∙ sym (value_leaf (reduced s w) c v) ∙ ap (λ (f : Stage). f v) (in_table (Code c)))
+          (tt, λ v. value_leaf (reduced t'.store) c v ∙ sym (value_leaf (reduced s) c v) ∙ ap (λ (f : Stage). f v) (in_table (Code c)))
       go (At k) e u =
           let h : k < s.linked = subst (Under s.linked) e u in
           let c = copied k h (more k (marked.here j k l e)) in
@@ -111,7 +111,7 @@ module _ (t t' : NodeTable) (s : Store) (first marks : List Bool) (to roots root
         one = in_map (stage_of t) (get_or roots j (Code 0)) roots (in_at roots j (Code 0) lj);
         part =
             subst (λ (f : Stage). PartOf f (part_at width (nodes t') i)) (in_table (At m) ∙ ap (stage_of t) (sym e))
-            (part_on (reduced s w) (At m) km k a (part_at width (nodes t') i) p);
+            (part_on (reduced s) (At m) km k a (part_at width (nodes t') i) p);
       }
 
   -- and every such part is a node that is left
@@ -121,10 +121,10 @@ module _ (t t' : NodeTable) (s : Store) (first marks : List Bool) (to roots root
       let (j, l, d) = at_in roots r (Code 0) m in
       let went = root_went j l in
       let same : p.stage ≡ stage_of t' (get_or roots' j (Code 0)) = e ∙ ap (stage_of t) (sym d) ∙ sym (fun_ext went.1) in
-      let n = part_node (reduced t'.store w') (get_or roots' j (Code 0)) went.0 x (subst (λ (f : Stage). PartOf f x) same p.part) in
+      let n = part_node (reduced t'.store) (get_or roots' j (Code 0)) went.0 x (subst (λ (f : Stage). PartOf f x) same p.part) in
       subst (λ (z : Part). z ∈ map (part_at width (nodes t')) (below t'.store.linked)) (sym n.is)
       (in_map (part_at width (nodes t')) n.number (below t'.store.linked)
-      (in_below t'.store.linked n.number (reached_known (reduced t'.store w') (get_or roots' j (Code 0)) went.0 n.number n.reached)))
+      (in_below t'.store.linked n.number (reached_known (reduced t'.store) (get_or roots' j (Code 0)) went.0 n.number n.reached)))
 
   pub collected : Collected t t' roots roots' t'.end.at
   collected = record {
@@ -135,7 +135,7 @@ module _ (t t' : NodeTable) (s : Store) (first marks : List Bool) (to roots root
       members = map (part_at width (nodes t')) (below t'.store.linked);
       distinct =
           distinct_map (part_at width (nodes t')) (below t'.store.linked)
-          (λ i k a b e. part_once (reduced t'.store w') i k (below_in t'.store.linked i a) (below_in t'.store.linked k b) e)
+          (λ i k a b e. part_once (reduced t'.store) i k (below_in t'.store.linked i a) (below_in t'.store.linked k b) e)
           (distinct_below t'.store.linked);
       exact = λ x. (part_left x, λ m. back x m);
       number = length-map (below t'.store.linked) (part_at width (nodes t')) ∙ length_below t'.store.linked ∙ sym flush;

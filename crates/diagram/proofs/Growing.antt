@@ -12,7 +12,7 @@ use Rattle.model.proofs.Rows.{same_part}
 use Rattle.model.proofs.Laying.{value_grown}
 use Rattle.diagram.specs.declared.store.Store.{Store}
 use Rattle.diagram.specs.Nodes.{Under}
-use Rattle.diagram.specs.Stores.{nodes_of, value_in, Whole, Grows, Fits, New}
+use Rattle.diagram.specs.Stores.{nodes_of, value_in, Grows, Fits, New}
 use Rattle.diagram.proofs.Reduces.{reduced, grown}
 
 -- a reference that tests no place before q tests none before an earlier one
@@ -28,14 +28,14 @@ fits_grows s t p (At k) g f = record {
 }
 
 -- and has the same value
-pub value_grows : (s t : Store) → Whole s → Grows s t → (r : Ref) → Under s.linked r → (v : Bits) → value_in t r v ≡ value_in s r v
-value_grows s t w g r u v = value_grown (reduced s w) (grown s t g) r u v
+pub value_grows : (s t : Store) → Grows s t → (r : Ref) → Under s.linked r → (v : Bits) → value_in t r v ≡ value_in s r v
+value_grows s t g r u v = value_grown (reduced s) (grown s t g) r u v
 
 -- a node of a store is the same part of the grown store
-pub part_grows : (s t : Store) → Whole s → Grows s t → (j : ℕ) → j < s.linked → part_at width (nodes_of t) j ≡ part_at width (nodes_of s) j
-part_grows s t w g j l =
+pub part_grows : (s t : Store) → Grows s t → (j : ℕ) → j < s.linked → part_at width (nodes_of t) j ≡ part_at width (nodes_of s) j
+part_grows s t g j l =
     same_part (part_at width (nodes_of t) j) (part_at width (nodes_of s) j)
-    (ap (λ (n : Node). n.place) (g.same j l)) (fun_ext (λ v. value_grows s t w g (At j) l v))
+    (ap (λ (n : Node). n.place) (g.same j l)) (fun_ext (λ v. value_grows s t g (At j) l v))
 
 -- a store is grown out of itself
 pub grows_refl : (s : Store) → Grows s s

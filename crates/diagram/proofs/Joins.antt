@@ -14,22 +14,22 @@ use Rattle.model.proofs.Diagram.{value_from}
 use Rattle.model.proofs.Laying.{value_grown, made_value, pending, pending_matters, pending_new}
 use Rattle.diagram.specs.declared.store.Store.{Store}
 use Rattle.diagram.specs.Nodes.{Under}
-use Rattle.diagram.specs.Stores.{nodes_of, value_in, Whole, Grows, Fits, New, Stands, Lacks, joined}
+use Rattle.diagram.specs.Stores.{nodes_of, value_in, Grows, Fits, New, Stands, Lacks, joined}
 use Rattle.diagram.proofs.Reduces.{reduced, grown}
 
-module _ (s : Store) (w : Whole s) (p : ℕ) (low high : Ref) (lt : p < width) where
+module _ (s : Store) (p : ℕ) (low high : Ref) (lt : p < width) where
   -- a node with the two references stands for them
   pub found_stands : (i : ℕ) → i < s.linked → nodes_of s i ≡ record { place = p; low = low; high = high }
       → Stands s p (joined s p low high) (At i)
   found_stands i h e = record {
     fits = record { under = h; later = omega (arith, ap (λ (n : Node). n.place) e) };
-    is = made_value (reduced s w) p low high (At i) lt (found i h e);
+    is = made_value (reduced s) p low high (At i) lt (found i h e);
   }
 
   module _ (fl : Fits s (p + 1) low) (fh : Fits s (p + 1) high) (apart : low ≢ high) where
     -- the node as a part, before it is made
     abbrev part : Part
-    part = pending (reduced s w) p low high
+    part = pending (reduced s) p low high
 
     -- the two references do not depend on the bits before their place
     joined_fixed : (u row : Bits) → joined s p low high (splice p u row) ≡ joined s p low high row
@@ -40,14 +40,14 @@ module _ (s : Store) (w : Whole s) (p : ℕ) (low high : Ref) (lt : p < width) w
       where
         from : (r : Ref) → Under s.linked r → p + 1 ≤ top width (nodes_of s) r → value_in s r (splice p u row) ≡ value_in s r row
         from r k h =
-            value_from (reduced s w) (width - p) p (omega arith) (splice p u row) row r k (omega arith) (λ q z. splice_high p u row q z)
+            value_from (reduced s) (width - p) p (omega arith) (splice p u row) row r k (omega arith) (λ q z. splice_high p u row q z)
 
     -- it is a part of what the two references make
     pub pending_part : PartOf (joined s p low high) part
     pending_part = record {
       fixing = λ q. false;
       is = fun_ext (λ row. sym (joined_fixed (λ q. false) row));
-      matters = pending_matters (reduced s w) p low high lt fl.under fh.under (omega (arith, fl.later)) (omega (arith, fh.later)) apart;
+      matters = pending_matters (reduced s) p low high lt fl.under fh.under (omega (arith, fl.later)) (omega (arith, fh.later)) apart;
     }
 
     -- in a full store without this node a part is lacking
@@ -57,17 +57,17 @@ module _ (s : Store) (w : Whole s) (p : ℕ) (low high : Ref) (lt : p < width) w
       full = full;
       part = part;
       of = pending_part;
-      new = pending_new (reduced s w) p low high lt fl.under fh.under (omega (arith, fl.later)) (omega (arith, fh.later)) fresh;
+      new = pending_new (reduced s) p low high lt fl.under fh.under (omega (arith, fl.later)) (omega (arith, fh.later)) fresh;
     }
 
-    module _ (s' : Store) (w' : Whole s') (g : Grows s s') (one : s'.linked ≡ s.linked + 1)
+    module _ (s' : Store) (g : Grows s s') (one : s'.linked ≡ s.linked + 1)
         (at : nodes_of s' s.linked ≡ record { place = p; low = low; high = high }) where
       -- the node that was made has the value of the two references in the store before
       made_is : (row : Bits) → value_in s' (At s.linked) row ≡ joined s p low high row
       made_is row =
-          made_value (reduced s' w') p low high (At s.linked) lt (found s.linked (omega arith) at) row
-          ∙ ap (λ (x : ℕ). cond (row p) x (value_in s' low row)) (value_grown (reduced s w) (grown s s' g) high fh.under row)
-          ∙ ap (λ (x : ℕ). cond (row p) (value_in s high row) x) (value_grown (reduced s w) (grown s s' g) low fl.under row)
+          made_value (reduced s') p low high (At s.linked) lt (found s.linked (omega arith) at) row
+          ∙ ap (λ (x : ℕ). cond (row p) x (value_in s' low row)) (value_grown (reduced s) (grown s s' g) high fh.under row)
+          ∙ ap (λ (x : ℕ). cond (row p) (value_in s high row) x) (value_grown (reduced s) (grown s s' g) low fl.under row)
 
       -- so it stands for them
       pub made_stands : (r : ℕ) → r ≡ s.linked → Stands s' p (joined s p low high) (At r)

@@ -1,12 +1,10 @@
 pub mod Ranks
 pub mod Reduces
 pub mod Growing
-pub mod Props
 pub mod Numbers
 pub mod Chains
 pub mod Fills
 pub mod Joins
-pub mod Nexts
 pub mod Skips
 pub mod Subparts
 pub mod Noting

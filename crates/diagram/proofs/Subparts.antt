@@ -9,7 +9,7 @@ use Rattle.model.specs.Parts.{Part, PartOf, fixed}
 use Rattle.model.specs.Diagram.{part_at}
 use Rattle.model.proofs.Rows.{splice_low, splice_high, put_here, put_else}
 use Rattle.diagram.specs.declared.store.Store.{Store}
-use Rattle.diagram.specs.Stores.{nodes_of, Whole, Grows, New, Lacks}
+use Rattle.diagram.specs.Stores.{nodes_of, Grows, New, Lacks}
 use Rattle.diagram.proofs.Growing.{part_grows}
 
 -- h does not go by the bits up to p
@@ -66,9 +66,9 @@ pub lacks_sub : (t : Store) (g h : Stage) → ((x : Part) → PartOf h x → Par
 lacks_sub t g h sub k = record { full = k.full; part = k.part; of = sub k.part k.of; new = k.new }
 
 -- what is new at two times is new
-pub new_trans : (s t u : Store) (g : Stage) → Whole t → Grows t u → New s t g → New t u g → New s u g
-new_trans s t u g w h a b i l m = go (dec_lt i t.linked)
+pub new_trans : (s t u : Store) (g : Stage) → Grows t u → New s t g → New t u g → New s u g
+new_trans s t u g h a b i l m = go (dec_lt i t.linked)
   where
     go : Dec (i < t.linked) → PartOf g (part_at width (nodes_of u) i)
-    go (yes e) = subst (PartOf g) (sym (part_grows t u w h i e)) (a i l e)
+    go (yes e) = subst (PartOf g) (sym (part_grows t u h i e)) (a i l e)
     go (no e) = b i (omega arith) m

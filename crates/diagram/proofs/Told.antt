@@ -7,11 +7,11 @@ use Rattle.model.specs.Diagram.{first_from}
 use Rattle.model.proofs.Diagram.{value_reads}
 use Rattle.diagram.specs.declared.store.Store.{Store}
 use Rattle.diagram.specs.Nodes.{Under}
-use Rattle.diagram.specs.Stores.{nodes_of, value_in, Whole}
+use Rattle.diagram.specs.Stores.{nodes_of, value_in}
 use Rattle.diagram.specs.Walks.{row_of}
 use Rattle.diagram.proofs.Walked.{differ_so}
 
-module _ (s : Store) (w : Whole s) (a b : Ref) (ka : Under s.linked a) (kb : Under s.linked b) (bits : List Bool)
+module _ (s : Store) (a b : Ref) (ka : Under s.linked a) (kb : Under s.linked b) (bits : List Bool)
     (row : (k : ℕ) → 0 ≤ k → k < width → get_or bits k false ≡ first_from (nodes_of s) (width - 0) 0 a b k) where
   same_row : AgreeBelow width (row_of bits) (first_from (nodes_of s) width 0 a b)
   same_row k l = row k (omega arith) l
@@ -21,12 +21,12 @@ module _ (s : Store) (w : Whole s) (a b : Ref) (ka : Under s.linked a) (kb : Und
 
   -- different references differ at the bits that were written
   pub told_apart_at : a ≢ b → value_in s a (row_of bits) ≢ value_in s b (row_of bits)
-  told_apart_at n e = (differ_so s w a b ka kb).differ n (sym (same_value a) ∙ e ∙ same_value b)
+  told_apart_at n e = (differ_so s a b ka kb).differ n (sym (same_value a) ∙ e ∙ same_value b)
 
   -- and at no bits before them
   pub told_least : (v : Bits) → First width v (row_of bits) → value_in s a v ≡ value_in s b v
   told_least v f =
-      (differ_so s w a b ka kb).least v
+      (differ_so s a b ka kb).least v
       (record {
         place = f.place;
         within = f.within;

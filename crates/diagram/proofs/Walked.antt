@@ -1,6 +1,6 @@
 -- What walks over a store give: branches, notes of depth, first differences, and what tests, depth and differences say of
 -- the functions that references stand for. Assumes nothing.
-use Rattle.std.proofs.Common.{◌≡◌, ℕ, suc, ◌+◌, ◌-◌, ◌<◌, ◌≤◌, Bool, true, false, cond, List, length, get_or, set, sym, refl, ap, ◌∙◌, subst, add-one, arith, get_or-set_other, get_or-set_same}
+use Rattle.std.proofs.Common.{◌≡◌, ℕ, suc, ◌+◌, ◌-◌, ◌<◌, ◌≤◌, Bool, true, false, cond, List, Option, Some, None, length, get_or, set, sym, refl, ap, ◌∙◌, subst, add-one, arith, get_or-set_other, get_or-set_same}
 use native.Mathlib.Decide.{ℕ_discrete}
 use Rattle.acl.specs.Headers.{width}
 use Rattle.model.specs.Rows.{Bits}
@@ -11,27 +11,29 @@ use Rattle.model.specs.declared.node.Ref.{Ref}
 use Rattle.model.specs.declared.node.Ref.TheVariants.{Node as At}
 use Rattle.model.specs.Diagram.{Table, step, same_ref, first_from, tests_from}
 use Rattle.model.proofs.Rows.{put_here, put_else}
-use Rattle.model.proofs.Diagram.{step_at, told_apart}
+use Rattle.model.proofs.Diagram.{same_ref_lem, same_ref_refl, step_at, told_apart}
 use Rattle.model.proofs.Tests.{tests_are, tally_unique, deep_most, deep_some}
 use Rattle.diagram.specs.declared.store.Store.{Store}
 use Rattle.diagram.specs.Nodes.{Under}
-use Rattle.diagram.specs.Stores.{nodes_of, value_in, Whole, Branches}
+use Rattle.diagram.specs.Stores.{nodes_of, value_in, Branches}
 use Rattle.diagram.specs.Walks.{deepest, DeepNoted}
 use Rattle.diagram.proofs.Reduces.{reduced}
 use Rattle.diagram.proofs.Walking.{value_way}
 
 -- a node branches at its own place
-pub branches_node : (s : Store) (i p : ℕ) → Whole s → i < s.linked → (nodes_of s i).place ≡ p
-    → Branches s p (At i) (nodes_of s i).low (nodes_of s i).high
-branches_node s i p w k e =
-    let red = reduced s w in
-    record {
+pub branches_node : (s : Store) (i p : ℕ) (f : Ref) → f ≡ At i → Under s.linked f → (nodes_of s i).place ≡ p
+    → Branches s p f (nodes_of s i).low (nodes_of s i).high
+branches_node s i p f a u e =
+    let red = reduced s in
+    let k : i < s.linked = subst (Under s.linked) a u in
+    subst (λ (r : Ref). Branches s p r (nodes_of s i).low (nodes_of s i).high) (sym a)
+    (record {
       low_fits = record { under = red.low_known i k; later = omega (arith, red.low_later i k) };
       high_fits = record { under = red.high_known i k; later = omega (arith, red.high_later i k) };
       low_is = sym (step_at (nodes_of s) p false i e);
       high_is = sym (step_at (nodes_of s) p true i e);
       is = λ v. value_way red i k v ∙ ap (λ q. value_in s (cond (v q) (nodes_of s i).high (nodes_of s i).low) v) e ∙ split v (v p);
-    }
+    })
   where
     split : (v : Bits) (b : Bool) → value_in s (cond b (nodes_of s i).high (nodes_of s i).low) v
         ≡ cond b (value_in s (nodes_of s i).high v) (value_in s (nodes_of s i).low v)
@@ -39,18 +41,29 @@ branches_node s i p w k e =
     split v false = refl
 
 -- one more note of depth
-pub deep_noted : (s : Store) (deep : List ℕ) (i m : ℕ) → length deep ≡ 2048 → i < 2048 → i < s.linked → m ≡ deepest s (At i)
-    → DeepNoted s deep → DeepNoted s (set deep i m)
-deep_noted s deep i m n l k e old j = go (ℕ_discrete j i)
+pub deep_noted : (s : Store) (deep : List (Option ℕ)) (i m : ℕ) → length deep ≡ 2048 → i < 2048 → i < s.linked → m ≡ deepest s (At i)
+    → DeepNoted s deep → DeepNoted s (set deep i (Some m))
+deep_noted s deep i m n l k e old j d = go (ℕ_discrete j i)
   where
-    go : Dec (j ≡ i) → 0 < get_or (set deep i m) j 0 → (j < s.linked) × (get_or (set deep i m) j 0 ≡ deepest s (At j))
+    go : Dec (j ≡ i) → get_or (set deep i (Some m)) j None ≡ Some d → (j < s.linked) × (d ≡ deepest s (At j))
     go (yes x) h =
-        let here : get_or (set deep i m) j 0 ≡ m = ap (λ z. get_or (set deep i m) z 0) x ∙ get_or-set_same deep i m 0 (omega arith) in
-        (omega arith, here ∙ e ∙ ap (λ z. deepest s (At z)) (sym x))
-    go (no x) h =
-        let here : get_or (set deep i m) j 0 ≡ get_or deep j 0 = get_or-set_other deep i j m 0 (omega arith) in
-        let (a, b) = old j (omega arith) in
-        (a, here ∙ b)
+        let here : get_or (set deep i (Some m)) j None ≡ Some m =
+        ap (λ z. get_or (set deep i (Some m)) z None) x ∙ get_or-set_same deep i (Some m) None (omega arith) in
+        let same : d ≡ m = cc in
+        (omega arith, same ∙ e ∙ ap (λ z. deepest s (At z)) (sym x))
+    go (no x) h = old j d (sym (get_or-set_other deep i j (Some m) None (omega arith)) ∙ h)
+
+-- the same reference passes the test
+pub same_ref_true : (a b : Ref) → a ≡ b → same_ref a b ≡ true
+same_ref_true a b e = ap (same_ref a) (sym e) ∙ same_ref_refl a
+
+-- and another does not
+pub same_ref_false : (a b : Ref) → (a ≡ b → ⊥) → same_ref a b ≡ false
+same_ref_false a b n = go (same_ref a b) refl
+  where
+    go : (c : Bool) → same_ref a b ≡ c → same_ref a b ≡ false
+    go true e = absurd (n (same_ref_lem a b e))
+    go false e = e
 
 module _ (t : Table) where
   -- the first difference goes high at p where low does not tell the two apart
@@ -104,10 +117,6 @@ module _ (s : Store) (p : ℕ) (a b la ha lb hb : Ref) (old new : List Bool) (l 
     pub before : (k : ℕ) → k < p + 1 → get_or new k false ≡ get_or (set old p c) k false
     pub row : (k : ℕ) → p + 1 ≤ k → k < width → get_or new k false ≡ first_from (nodes_of s) (width - (p + 1)) (p + 1) x y k
 
-  -- bits before p stay
-  pub turned_before : (c : Bool) (x y : Ref) → Turned c x y → (k : ℕ) → k < p → get_or new k false ≡ get_or old k false
-  turned_before c x y h k m = h.before k (omega arith) ∙ get_or-set_other old p k c false (omega arith)
-
   -- bits from p on are the first difference, where the turn is c and the ways on are x and y
   turned : (c : Bool) (x y : Ref) → x ≡ step (nodes_of s) p c a → y ≡ step (nodes_of s) p c b → Turned c x y
       → (k : ℕ) → p ≤ k → k < width → get_or new k false ≡ first_from (nodes_of s) (width - p) p a b k
@@ -125,15 +134,15 @@ module _ (s : Store) (p : ℕ) (a b la ha lb hb : Ref) (old new : List Bool) (l 
   turned_low = turned false la lb sa.low_is sb.low_is
 
 -- the tests from a reference are the places whose bit matters after the bits before it
-pub tests_so : (s : Store) → Whole s → (r : Ref) → Under s.linked r → (row : Bits)
+pub tests_so : (s : Store) → (r : Ref) → Under s.linked r → (row : Bits)
     → Tally (λ p. Matters p (fixed p row (value_in s r))) width (tests_from width (nodes_of s) width 0 row r)
-tests_so s w r u row = tests_are (reduced s w) row r u
+tests_so s r u row = tests_are (reduced s) row r u
 
 -- the depth is the most tests that any row makes
-pub depth_so : (s : Store) → Whole s → (r : Ref) → Under s.linked r
+pub depth_so : (s : Store) → (r : Ref) → Under s.linked r
     → ((row : Bits) (n : ℕ) → Tally (λ p. Matters p (fixed p row (value_in s r))) width n → n ≤ deepest s r)
     × ((row : Bits) × Tally (λ p. Matters p (fixed p row (value_in s r))) width (deepest s r))
-depth_so s w r u = (most, some)
+depth_so s r u = (most, some)
   where
     P : Bits → ℕ → Type 0
     P row p = Matters p (fixed p row (value_in s r))
@@ -141,14 +150,14 @@ depth_so s w r u = (most, some)
     most : (row : Bits) (n : ℕ) → Tally (P row) width n → n ≤ deepest s r
     most row n x =
         let m : ℕ = tests_from width (nodes_of s) width 0 row r in
-        let e : n ≡ m = tally_unique (P row) width n m x (tests_so s w r u row) in
+        let e : n ≡ m = tally_unique (P row) width n m x (tests_so s r u row) in
         omega (arith, e, deep_most width (nodes_of s) width 0 row r)
 
     some : (row : Bits) × Tally (P row) width (deepest s r)
     some =
         let (row, e) = deep_some width (nodes_of s) width 0 r in
-        (row, subst (Tally (P row) width) e (tests_so s w r u row))
+        (row, subst (Tally (P row) width) e (tests_so s r u row))
 
 -- two references are told apart by their values, at the first row of bits where they differ
-pub differ_so : (s : Store) → Whole s → (a b : Ref) → Under s.linked a → Under s.linked b → ToldApart width (nodes_of s) a b
-differ_so s w a b ua ub = told_apart (reduced s w) a b ua ub
+pub differ_so : (s : Store) → (a b : Ref) → Under s.linked a → Under s.linked b → ToldApart width (nodes_of s) a b
+differ_so s a b ua ub = told_apart (reduced s) a b ua ub

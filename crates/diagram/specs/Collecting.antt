@@ -3,12 +3,10 @@ use Rattle.std.specs.Prelude.{◌≡◌, ℕ, ◌<◌, ◌≤◌, Bool, true, fa
 use Rattle.acl.specs.Headers.{width}
 use Rattle.model.specs.declared.node.Ref.{Ref}
 use Rattle.model.specs.declared.node.Ref.TheVariants.{Code, Node as At}
-use Rattle.model.specs.declared.node.Node.{Node}
 use Rattle.model.specs.Rows.{Bits}
 use Rattle.model.specs.Parts.{PartOf}
-use Rattle.model.specs.Diagram.{top, value, part_at, Reached}
+use Rattle.model.specs.Diagram.{top, part_at, Reached}
 use Rattle.diagram.specs.declared.store.Store.{Store}
-use Rattle.diagram.specs.Nodes.{table_of, Good}
 use Rattle.diagram.specs.Stores.{nodes_of, value_in, Fits}
 
 -- the node is marked
@@ -27,34 +25,29 @@ pub record MarksAll (roots : List Ref) (new : List Bool) : Type 0 where
   pub only : (k : ℕ) → IsMarked new k → (j : ℕ) × (j < length roots) × (slice_index_or roots j (Code 0) ≡ At k)
 
 -- of the nodes from i on, what is marked has what it refers to marked
-abbrev pub ClosedFrom : List Node → ℕ → List Bool → ℕ → Type 0
-ClosedFrom ns e marks i =
-    (k j : ℕ) → i ≤ k → k < e → IsMarked marks k → ((table_of ns k).low ≡ At j) ⊎ ((table_of ns k).high ≡ At j) → IsMarked marks j
+abbrev pub ClosedFrom : Store → List Bool → ℕ → Type 0
+ClosedFrom s marks i =
+    (k j : ℕ) → i ≤ k → k < s.linked → IsMarked marks k → ((nodes_of s k).low ≡ At j) ⊎ ((nodes_of s k).high ≡ At j) → IsMarked marks j
 
 -- what is marked was marked before, or is reached from what was
-abbrev pub MarksReached : List Node → List Bool → List Bool → Type 0
-MarksReached ns old new = (k : ℕ) → IsMarked new k → (m : ℕ) × IsMarked old m × Reached (table_of ns) (At m) k
-
--- e nodes, each of them good and no two alike
-pub record Tidy (ns : List Node) (e : ℕ) : Type 0 where
-  pub good : (k : ℕ) → k < e → Good ns k (table_of ns k)
-  pub unique : (j k : ℕ) → j < e → k < e → table_of ns j ≡ table_of ns k → j ≡ k
+abbrev pub MarksReached : Store → List Bool → List Bool → Type 0
+MarksReached s old new = (k : ℕ) → IsMarked new k → (m : ℕ) × IsMarked old m × Reached (nodes_of s) (At m) k
 
 -- where a reference went
 abbrev pub moved_to : List Ref → Ref → Ref
 moved_to to (Code c) = Code c
 moved_to to (At i) = slice_index_or to i (Code 0)
 
--- x stands in s for r of the old nodes
-pub record Copied (old : List Node) (s : Store) (r x : Ref) : Type 0 where
-  pub fits : Fits s (top width (table_of old) r) x
-  pub is : (v : Bits) → value_in s x v ≡ value width (table_of old) r v
+-- x stands in s for r of the old store
+pub record Copied (old s : Store) (r x : Ref) : Type 0 where
+  pub fits : Fits s (top width (nodes_of old) r) x
+  pub is : (v : Bits) → value_in s x v ≡ value_in old r v
 
 -- each marked node below i has its copy
-abbrev pub CopiedTo : List Node → Store → List Bool → List Ref → ℕ → Type 0
+abbrev pub CopiedTo : Store → Store → List Bool → List Ref → ℕ → Type 0
 CopiedTo old s marks to i = (k : ℕ) → k < i → IsMarked marks k → Copied old s (At k) (slice_index_or to k (Code 0))
 
 -- every node of s is a part of a marked node below i
-abbrev pub FromMarked : List Node → Store → List Bool → ℕ → Type 0
+abbrev pub FromMarked : Store → Store → List Bool → ℕ → Type 0
 FromMarked old s marks i =
-    (j : ℕ) → j < s.linked → (k : ℕ) × (k < i) × IsMarked marks k × PartOf (value width (table_of old) (At k)) (part_at width (nodes_of s) j)
+    (j : ℕ) → j < s.linked → (k : ℕ) × (k < i) × IsMarked marks k × PartOf (value_in old (At k)) (part_at width (nodes_of s) j)

@@ -1,17 +1,11 @@
 -- A piece as it is laid. This file names no struct with a ghost field. Assumes nothing.
-use Rattle.std.specs.Prelude.{◌≡◌, ℕ, ◌<◌, ◌≤◌, Bool, true, false, List, slice_index, slice_index_or}
+use Rattle.std.specs.Prelude.{ℕ, ◌<◌, ◌≤◌, List, slice_index, slice_index_or, None, IsNone}
+use Rattle.model.specs.Laying.{Ask}
 use Rattle.acl.specs.Headers.{width}
-use Rattle.model.specs.declared.ask.Ask.{Ask}
-use Rattle.model.specs.declared.ask.Ask.TheVariants.{Ignored, Wanted}
 
 -- what is asked at a place; nothing past the last
 abbrev pub asked : List Ask → ℕ → Ask
-asked asks p = slice_index_or asks p Ignored
-
--- nothing is asked
-abbrev pub ignored : Ask → Bool
-ignored Ignored = true
-ignored (Wanted b) = false
+asked asks p = slice_index_or asks p None
 
 -- `next` has for each place the next one, itself included, at which something is asked, or 104: it is not before the place,
 abbrev pub Onward : List ℕ → Type 0
@@ -23,4 +17,4 @@ Inside next = (p : ℕ) → p < width → slice_index next p ≤ width
 
 -- and between the two nothing is asked
 abbrev pub Quiet : List Ask → List ℕ → Type 0
-Quiet asks next = (p z : ℕ) → p ≤ z → z < slice_index next p → ignored (asked asks z) ≡ true
+Quiet asks next = (p z : ℕ) → p ≤ z → z < slice_index next p → IsNone (asked asks z)

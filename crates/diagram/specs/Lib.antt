@@ -1,4 +1,5 @@
 pub mod Nodes
+pub mod Props
 pub mod Cubes
 pub mod Stores
 pub mod Layings

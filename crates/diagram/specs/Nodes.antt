@@ -1,6 +1,6 @@
 -- Nodes in a row, and the index by which they are found again. This file names no struct with a ghost field.
 -- Assumes nothing.
-use Rattle.std.specs.Prelude.{◌≡◌, ℕ, ◌+◌, ◌-◌, ◌*◌, ◌%◌, ◌<◌, ◌≤◌, ◌≢◌, List, slice_index, slice_index_or}
+use Rattle.std.specs.Prelude.{◌≡◌, ℕ, ◌+◌, ◌*◌, ◌%◌, ◌<◌, ◌≤◌, ◌≢◌, List, Option, Some, None, slice_index_or}
 use Rattle.acl.specs.Headers.{width}
 use Rattle.model.specs.declared.node.Ref.{Ref}
 use Rattle.model.specs.declared.node.Ref.TheVariants.{Code, Node as At}
@@ -36,17 +36,22 @@ number (Code c) = 2 * c + 1
 unfoldable pub bucket : Node → ℕ
 bucket n = (n.place + 31 * number n.low + 1021 * number n.high) % 4096
 
--- h is 0, or 1 more than the last of the first e nodes that lie in bucket b
-pub record Chained (ns : List Node) (b e h : ℕ) : Type 0 where
-  pub within : h ≤ e
-  pub owner : 0 < h → bucket (table_of ns (h - 1)) ≡ b
-  pub all : (k : ℕ) → k < e → bucket (table_of ns k) ≡ b → k < h
+-- i is the last of the first e nodes that lie in bucket b
+pub record LastIn (ns : List Node) (b e i : ℕ) : Type 0 where
+  pub within : i < e
+  pub owner : bucket (table_of ns i) ≡ b
+  pub all : (k : ℕ) → k < e → bucket (table_of ns k) ≡ b → k ≤ i
+
+-- none, where none of the first e nodes lies in bucket b, or the last of those that do
+abbrev pub Chained : List Node → ℕ → ℕ → Option ℕ → Type 0
+Chained ns b e None = (k : ℕ) → k < e → bucket (table_of ns k) ≢ b
+Chained ns b e (Some i) = LastIn ns b e i
 
 -- e nodes, each of them good and no two alike, and an index of them by buckets: the last node of each bucket, and of each
 -- node the one before it in its bucket
-pub record Sound (ns : List Node) (head next : List ℕ) (e : ℕ) : Type 0 where
+pub record Sound (ns : List Node) (head next : List (Option ℕ)) (e : ℕ) : Type 0 where
   pub fits : e ≤ 2048
   pub good : (k : ℕ) → k < e → Good ns k (table_of ns k)
   pub unique : (j k : ℕ) → j < e → k < e → table_of ns j ≡ table_of ns k → j ≡ k
-  pub heads : (b : ℕ) → b < 4096 → Chained ns b e (slice_index head b)
-  pub nexts : (i : ℕ) → i < e → Chained ns (bucket (table_of ns i)) i (slice_index next i)
+  pub heads : (b : ℕ) → b < 4096 → Chained ns b e (slice_index_or head b None)
+  pub nexts : (i : ℕ) → i < e → Chained ns (bucket (table_of ns i)) i (slice_index_or next i None)

@@ -1,18 +1,19 @@
 -- What a store of nodes means, and what changes of it keep. Assumes nothing.
 use Rattle.std.specs.Prelude.{◌≡◌, ℕ, ◌+◌, ◌-◌, ◌<◌, ◌≤◌, true, false, cond, ◌≢◌, Some, None, slice_index_or}
 use Rattle.acl.specs.Headers.{width}
-use Rattle.model.specs.declared.ask.Ask.{Ask}
 use Rattle.model.specs.declared.node.Ref.{Ref}
-use Rattle.model.specs.declared.node.Ref.TheVariants.{Code, Node as At}
+use Rattle.model.specs.declared.node.Ref.TheVariants.{Node as At}
 use Rattle.model.specs.Rows.{Bits}
 use Rattle.model.specs.Stages.{Stage}
 use Rattle.model.specs.Parts.{Part, PartOf}
 use Rattle.model.specs.Diagram.{Table, top, step, value, part_at}
 use Rattle.model.specs.Laying.{in_from}
+use Rattle.diagram.specs.declared.cube.Cube.{Cube}
 use Rattle.diagram.specs.declared.store.Store.{Store}
 use Rattle.diagram.specs.declared.store.Past.{Past}
 use Rattle.diagram.specs.declared.store.Notes.{Notes}
-use Rattle.diagram.specs.Nodes.{table_of, Under, Sound}
+use Rattle.diagram.specs.Cubes.{asked}
+use Rattle.diagram.specs.Nodes.{table_of, Under}
 
 -- the nodes of a store as a table, and the stage that a reference stands for
 abbrev pub nodes_of : Store → Table
@@ -20,12 +21,6 @@ nodes_of s = table_of s.nodes
 
 abbrev pub value_in : Store → Ref → Stage
 value_in s r = value width (nodes_of s) r
-
--- the store is sound, and keeps to its number of nodes
-pub record Whole (s : Store) : Type 0 where
-  pub sound : Sound s.nodes s.head s.next s.linked
-  pub capped : s.cap ≤ 2048
-  pub fits : s.linked ≤ s.cap
 
 -- after some laying all nodes stand as before, and there may be more
 pub record Grows (s s' : Store) : Type 0 where
@@ -59,8 +54,8 @@ abbrev pub joined : Store → ℕ → Ref → Ref → Stage
 joined s p low high v = cond (v p) (value_in s high v) (value_in s low v)
 
 -- the piece laid over f from place p on: the code where the bits from p on are as they are asked for, and else f
-abbrev pub laid_from : (ℕ → Ask) → ℕ → Store → ℕ → Ref → Stage
-laid_from q c s p f v = cond (in_from q (width - p) p v) c (value_in s f v)
+abbrev pub laid_from : Cube → Store → ℕ → Ref → Stage
+laid_from c s p f v = cond (in_from (asked c.asks) (width - p) p v) c.code (value_in s f v)
 
 -- f branches at p to low and high: it tests p and goes on to them, or does not and stays
 pub record Branches (s : Store) (p : ℕ) (f low high : Ref) : Type 0 where
@@ -71,11 +66,11 @@ pub record Branches (s : Store) (p : ℕ) (f low high : Ref) : Type 0 where
   pub is : (v : Bits) → value_in s f v ≡ joined s p low high v
 
 -- each note is the piece laid over its node, or over its reference from its place on
-pub record Noted (s : Store) (q : ℕ → Ask) (c : ℕ) (n : Notes) : Type 0 where
-  pub made : (k : ℕ) → slice_index_or n.known k false ≡ true
-      → (k < s.linked) × Stands s (nodes_of s k).place (laid_from q c s (nodes_of s k).place (At k)) (slice_index_or n.made k (Code 0))
-  pub past : (p : ℕ) (e : Past) → slice_index_or n.past p None ≡ Some e → Under s.linked e.over × Stands s p (laid_from q c s p e.over) e.made
+pub record Noted (s : Store) (c : Cube) (n : Notes) : Type 0 where
+  pub made : (k : ℕ) (x : Ref) → slice_index_or n.made k None ≡ Some x
+      → (k < s.linked) × Stands s (nodes_of s k).place (laid_from c s (nodes_of s k).place (At k)) x
+  pub past : (p : ℕ) (e : Past) → slice_index_or n.past p None ≡ Some e → Under s.linked e.over × Stands s p (laid_from c s p e.over) e.made
 
 -- x is a note for f at place p
-abbrev pub Note : Store → (ℕ → Ask) → ℕ → ℕ → Ref → Ref → Type 0
-Note s q c p f x = Stands s p (laid_from q c s p f) x
+abbrev pub Note : Store → Cube → ℕ → Ref → Ref → Type 0
+Note s c p f x = Stands s p (laid_from c s p f) x

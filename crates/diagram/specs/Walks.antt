@@ -1,5 +1,5 @@
 -- Walks over a store. Assumes nothing.
-use Rattle.std.specs.Prelude.{◌≡◌, ℕ, ◌<◌, Bool, false, List, slice_index, slice_index_or}
+use Rattle.std.specs.Prelude.{◌≡◌, ℕ, ◌<◌, Bool, false, List, Option, Some, None, slice_index_or}
 use Rattle.acl.specs.Headers.{width}
 use Rattle.model.specs.declared.node.Ref.{Ref}
 use Rattle.model.specs.declared.node.Ref.TheVariants.{Node as At}
@@ -16,6 +16,6 @@ row_of bits p = slice_index_or bits p false
 abbrev pub deepest : Store → Ref → ℕ
 deepest s r = deep_from width (nodes_of s) width 0 r
 
--- what is noted of a node, where it is not 0, is the most tests from it on
-abbrev pub DeepNoted : Store → List ℕ → Type 0
-DeepNoted s deep = (k : ℕ) → 0 < slice_index deep k → (k < s.linked) × (slice_index deep k ≡ deepest s (At k))
+-- what is noted of a node, if anything is, is the most tests from it on
+abbrev pub DeepNoted : Store → List (Option ℕ) → Type 0
+DeepNoted s deep = (k m : ℕ) → slice_index_or deep k None ≡ Some m → (k < s.linked) × (m ≡ deepest s (At k))

@@ -1,4 +1,3 @@
-ghost use Rattle.std.specs.Prelude.{◌≡◌, ℕ, ◌<◌, ◌≤◌};
 ghost use Rattle.diagram.specs.Cubes.{Onward, Inside, Quiet};
 
 use model::ask::Ask;
@@ -14,5 +13,5 @@ pub struct Cube {
     pub(crate) code: u16,
     ghost onward: { Onward next },
     ghost inside: { Inside next },
-    ghost quiet: { ∥ Quiet asks next ∥₁ },
+    ghost quiet: { Quiet asks next },
 }

@@ -1,4 +1,4 @@
-ghost use Rattle.std.specs.Prelude.{◌≡◌, if◌then◌else◌};
+ghost use Rattle.std.specs.Prelude.{◌≡◌, unwrap_or};
 
 // The mark behind the last node of a table.
 #[derive(Clone, Copy)]
@@ -6,24 +6,19 @@ pub struct End {
     pub at: usize,
 }
 
-// A laying under way. Unless it is kept, its end puts the mark back where it was.
+// A laying under way. Its end puts the mark back to where it was, unless what it made is kept.
 pub struct Laying<'a> {
     pub end: &'a mut End,
-    pub mark: usize,
-    pub kept: bool,
+    pub mark: Option<usize>,
 }
 
 impl Drop for Laying<'_> {
     fn drop(self)
-        ensures { self.exit.0.now.at ≡ (if self.entry.kept then self.entry.end.now.at else self.entry.mark) }
+        ensures { self.exit.0.now.at ≡ unwrap_or self.entry.mark self.entry.end.now.at }
     {
-        if !self.kept {
-            self.end.at = self.mark;
+        let Laying { end, mark } = self;
+        if let Some(at) = mark {
+            end.at = at;
         }
-        let Laying {
-            end: _,
-            mark: _,
-            kept: _,
-        } = self;
     }
 }

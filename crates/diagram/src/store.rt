@@ -1,3 +1,7 @@
+ghost use Rattle.std.specs.Prelude.{◌≤◌};
+ghost use Rattle.diagram.specs.Nodes.{Sound};
+ghost use Rattle.diagram.specs.Props.{Sound-prop};
+
 use model::node::{Node, Ref};
 
 pub mod collecting;
@@ -7,15 +11,18 @@ pub mod noting;
 pub mod walking;
 
 // The nodes, and an index by which a node is found again: the last node of each bucket, and of
-// each node the one before it in its bucket, both counted from 1. The index has the first
-// `linked` nodes; there are at most `cap`.
+// each node the one before it in its bucket. The index has the first `linked` nodes; there are at
+// most `cap`.
 #[derive(Drop)]
 pub struct Store {
     pub(crate) nodes: [Node; 2048],
-    pub(crate) head: [u16; 4096],
-    pub(crate) next: [u16; 2048],
+    pub(crate) head: [Option<u16>; 4096],
+    pub(crate) next: [Option<u16>; 2048],
     pub(crate) linked: usize,
     pub(crate) cap: usize,
+    ghost sound: { Sound nodes head next linked } by { Sound-prop nodes head next linked },
+    ghost capped: { cap ≤ 2048 },
+    ghost fits: { linked ≤ cap },
 }
 
 // What was laid over `over` where it does not test the place.
@@ -29,7 +36,6 @@ pub struct Past {
 // does not test it. Each is made once and then found here.
 #[derive(Drop)]
 pub struct Notes {
-    pub(crate) known: [bool; 2048],
-    pub(crate) made: [Ref; 2048],
+    pub(crate) made: [Option<Ref>; 2048],
     pub(crate) past: [Option<Past>; 104],
 }

@@ -1,5 +1,4 @@
 ghost use Rattle.std.specs.Prelude.{◌≤◌};
-ghost use Rattle.diagram.specs.Stores.{Whole};
 
 use crate::guard::End;
 use crate::store::{Notes, Store};
@@ -21,6 +20,5 @@ pub struct Table {
     store: Store,
     end: End,
     notes: Notes,
-    ghost whole: { ∥ Whole store ∥₁ },
     ghost kept: { end.at ≤ store.linked },
 }

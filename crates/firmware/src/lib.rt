@@ -1,8 +1,7 @@
 #![tactic(auto)]
 
 ghost use Rattle.std.specs.Prelude.{◌≡◌};
-ghost use Rattle.acl.specs.Fits.{found_shape};
-ghost use Rattle.firmware.specs.Entry.{verdict_of, decided_of, entry_of, Roomy};
+ghost use Rattle.firmware.specs.Entry.{decided_of, entry_of, Roomy};
 
 use acl::fitting::first_match;
 use acl::header::Header;
@@ -10,28 +9,16 @@ use acl::line::Line;
 use acl::refusal::Refusal;
 use acl::terms::Action;
 use ios::outcome::Reading;
-use ios::read::read;
+use ios::read::{MOST_LINES, read};
 
-// What a list decides by the line that fits first; its end denies.
-fn verdict(found: Option<Line>) -> Action
-    ensures { result ≡ verdict_of (found_shape found) }
-{
-    match found {
-        Some(line) => line.action,
-        None => Action::Deny,
-    }
-}
-
-// What the list in a text decides of a header. There is memory for every list.
+// What the list in a text decides of a header; its end denies. There is memory for every list.
 fn decide(text: &[u8], header: Header) -> Result<Action, Refusal>
-    ensures answer { result ≡ decided_of text.now header }
-    ensures roomy { Roomy }
+    ensures { result ≡ decided_of text.now header }
 {
-    let mut memory = [Line::blank(); 1024];
-    match read(text, &mut memory) {
-        Err(fault) => Err(fault.refusal),
-        Ok(Reading { count, .. }) => Ok(verdict(first_match(&memory[0..count], header))),
-    }
+    let mut memory = [Line::blank(); MOST_LINES];
+    let Reading { count, .. } = read(text, &mut memory).map_err(|fault| fault.refusal)?;
+    let found = first_match(&memory[..count], header);
+    Ok(found.map_or(Action::Deny, |line| line.action))
 }
 
 // The entry for C: 0 where the list in the text denies the header, 1 where it permits it, and 256 + the
@@ -56,8 +43,7 @@ pub extern "C" fn miltroueg_decide(
         destination_port,
     };
     match decide(text, header) {
-        Ok(Action::Deny) => 0,
-        Ok(Action::Permit) => 1,
-        Err(refusal) => 256 + refusal.number() as u32,
+        Ok(action) => u32::from(u16::from(action)),
+        Err(refusal) => 256 + u32::from(refusal.number()),
     }
 }

@@ -4,15 +4,10 @@
 use deciding::report::report;
 use std::io::Read;
 
-fn run(rt: &HostRuntime) -> anyhow::Result<()> {
+fn main(rt: HostRuntime) -> anyhow::Result<()> {
     let mut input = Vec::new(rt.alloc());
-    let mut stdin = rt.stdin();
-    let _ = stdin.read_to_end(&mut input)?;
+    let _ = rt.stdin().read_to_end(&mut input)?;
     let output = report(rt.alloc(), &input)?;
     rt.print(output)?;
     Ok(())
-}
-
-fn main(rt: HostRuntime) -> anyhow::Result<()> {
-    run(&rt)
 }

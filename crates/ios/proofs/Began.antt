@@ -1,5 +1,6 @@
 -- Where a step of reading stops, the words before begin something good, and with the next word nothing. Assumes nothing.
 use Rattle.std.proofs.Common.{◌≡◌, ℕ, ◌≤◌, Bool, true, false, cond, eqb, leb, List, [], ◌∷◌, ◌++◌, map, Some, None, Ok, Err, codes, decimal, Option, Result, sym, refl, ap, ◌∙◌, append-nil, arith}
+use Rattle.std.proofs.lemmas.Bool.{cond-true, cond-false}
 use Rattle.std.proofs.lemmas.List.{map-append}
 use Rattle.std.proofs.lemmas.Bool.Decides.{nat_tests}
 use Rattle.acl.specs.declared.refusal.Refusal.{Refusal}
@@ -29,7 +30,7 @@ use Rattle.ios.specs.Grammar.{ActionText, ProtocolText, NetworkText, SourceText,
 use Rattle.ios.specs.Grammar.LineText.{numbered_line}
 use Rattle.ios.specs.Stands.{up_to}
 use Rattle.ios.proofs.Forms.{One, NumberText, headed}
-use Rattle.ios.proofs.Steps.{either, cond_on, cond_off, then_on, digit_looks, closed_looks, next_looks}
+use Rattle.ios.proofs.Steps.{either, then_on, digit_looks, closed_looks, next_looks}
 use Rattle.ios.proofs.Sound.{AllowedText, ListNumberText, number_sound, address_sound, action_sound, protocol_sound, network_sound, source_sound, ports_sound}
 use Rattle.ios.proofs.Sound.{log_sound, list_number_sound}
 use Rattle.ios.proofs.Complete.{cons_case, entry_takes}
@@ -357,8 +358,8 @@ says_stop : (known : Option ℕ) (z : ℕ) (ws : List Spanned) (s : Stop) → sa
 says_stop known z [] s e = never _ s e
 says_stop known z (w ∷ ws) s e = either (comment w.bytes) _ _ _ e (λ _ x. never _ s x) (λ _ x.
     either (next_by (w ∷ ws) (codes "access-list")) _ _ _ x
-    (λ is y. cond_on (next_by (w ∷ ws) (codes "access-list")) _ _ is ∙ body_stop (list_number_of known (rest_by z ws)) s y)
-    (λ is y. let k : stop BadWord w.column ≡ s = cc in cond_off (next_by (w ∷ ws) (codes "access-list")) _ _ is ∙ ap Err k))
+    (λ is y. cond-true (next_by (w ∷ ws) (codes "access-list")) _ _ is ∙ body_stop (list_number_of known (rest_by z ws)) s y)
+    (λ is y. let k : stop BadWord w.column ≡ s = cc in cond-false (next_by (w ∷ ws) (codes "access-list")) _ _ is ∙ ap Err k))
 
 -- a good line is taken
 line_takes : {n : ℕ} {vs : List (List ℕ)} {e : EntryShape} (known : Option ℕ) (z : ℕ) → LineText n vs e → Follows known n

@@ -1,12 +1,13 @@
 -- Steps of reading one after another: where they stop, what the words before begin, and that the next word ends it. Assumes nothing.
-use Rattle.std.proofs.Common.{◌≡◌, ℕ, Bool, true, cond, ◌⊎◌, List, [], ◌∷◌, ◌++◌, map, Ok, Err, Result, sym, refl, ap, ◌∙◌, subst, inl, inr, ⊎_elim, append_assoc, arith}
+use Rattle.std.proofs.Common.{◌≡◌, ℕ, Bool, true, cond, ◌⊎◌, List, [], ◌∷◌, ◌++◌, map, Ok, Err, Result, sym, refl, ap, ◌∙◌, subst, inl, inr, ⊎_elim, append_assoc}
+use Rattle.std.proofs.lemmas.Bool.{cond-true, cond-false}
 use Rattle.std.proofs.lemmas.List.{map-append}
 use Rattle.words.specs.declared.part.Stop.{Stop}
 use Rattle.words.specs.Words.{Spanned, bytes_of}
 use Rattle.words.specs.Cursor.{Rest, rest_by, passed, place_by, Step, onward}
 use Rattle.ios.specs.Parsing.{next_by}
 use Rattle.ios.proofs.Forms.{headed, Took, Began}
-use Rattle.ios.proofs.Steps.{Sound, onward_ok, named_is, then_on, either, cond_on, cond_off, headed_in, next_looks, same_on}
+use Rattle.ios.proofs.Steps.{Sound, onward_ok, named_is, then_on, either, headed_in, next_looks, same_on}
 
 -- something of the form R
 pub record Good {A : Type 0} (R : List (List ℕ) → A → Type 0) : Type 0 where
@@ -27,7 +28,7 @@ good_then g h = record { words = _; value = _; text = both g.text (h g.value).te
 
 -- a value is no stop
 pub never : {A : Type 0} {X : Type 0} (a : A) (t : Stop) → ◌≡◌ {A = Result A Stop} (Ok a) (Err t) → X
-never a t e = let k : ◌≡◌ {A = ℕ} 0 1 = cc in absurd (omega arith)
+never a t e = absurd cc
 
 -- a stop is in the first step, or in what follows it
 stopped : {A B : Type 0} (s : Step A) (f : A → Rest → Step B) (t : Stop) → onward s f ≡ Err t
@@ -93,8 +94,8 @@ pub by_test : {A D : Type 0} {R : List (List ℕ) → A → Type 0} {f g : Rest 
 by_test {f} {g} P looks on off z ws t e =
     let step : Rest → Step _ = λ r. cond (P r.words) (f r) (g r) in
     either (P ws) _ _ _ e
-    (λ is x. began_as f step z ws _ (on z ws t is x) (λ more. cond_on (P (headed ws more)) _ _ (looks ws more ∙ is)))
-    (λ is x. began_as g step z ws _ (off z ws t x) (λ more. cond_off (P (headed ws more)) _ _ (looks ws more ∙ is)))
+    (λ is x. began_as f step z ws _ (on z ws t is x) (λ more. cond-true (P (headed ws more)) _ _ (looks ws more ∙ is)))
+    (λ is x. began_as g step z ws _ (off z ws t x) (λ more. cond-false (P (headed ws more)) _ _ (looks ws more ∙ is)))
 
 -- where only a value is made of what a step read, the stop is in that step
 pub made : {A B D : Type 0} {R : List (List ℕ) → A → Type 0} {step : Rest → Step D} (g : D → B)
@@ -165,7 +166,7 @@ pub keyed : {A B D : Type 0} {R : List (List ℕ) → A → Type 0} {Q : List (L
     → Begins (λ r. cond (next_by r.words k) (f (passed r)) (g r)) Q
 keyed {Q} {f} k begins wide other = by_test (λ ws. next_by ws k) (next_looks k) found other where
   found : (z : ℕ) (ws : List Spanned) (t : Stop) → next_by ws k ≡ true → f (passed (rest_by z ws)) ≡ Err t → Began Q (λ r. f (passed r)) z ws t.column
-  found z [] t is e = let i : ◌≡◌ {A = ℕ} 0 1 = cc in absurd (omega arith)
+  found z [] t is e = absurd cc
   found z (w ∷ ws) t is e =
       let b = begins z ws t e in
       let p = wide (map bytes_of b.before ++ b.more) b.value b.text in

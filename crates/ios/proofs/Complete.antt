@@ -1,5 +1,6 @@
 -- Words of a form that the grammar has are taken by its step of reading, whatever follows them. Assumes nothing.
 use Rattle.std.proofs.Common.{◌≡◌, ℕ, ◌^◌, ◌<◌, ◌≤◌, Bool, true, false, cond, eqb, leb, List, [], ◌∷◌, ◌++◌, map, Some, None, Ok, codes, decimal, Option, sym, refl, ap, ◌∙◌, subst, arith, le-leb}
+use Rattle.std.proofs.lemmas.Bool.{cond-true, cond-false}
 use Rattle.acl.specs.declared.refusal.Refusal.TheVariants.{BadWord, BadAddress, BadNumber}
 use Rattle.acl.specs.declared.terms.Action.{Action}
 use Rattle.acl.specs.declared.terms.Protocol.{Protocol}
@@ -28,13 +29,13 @@ use Rattle.ios.specs.Grammar.PortsText.{no_test, eq, neq, lt, gt, range}
 use Rattle.ios.specs.Grammar.LogText.{no_log, logged}
 use Rattle.ios.specs.Grammar.EntryText.{standard, extended}
 use Rattle.words.proofs.Addresses.{address_every}
-use Rattle.ios.proofs.Steps.{named_is, either, cond_off, cond_on, then_on}
+use Rattle.ios.proofs.Steps.{named_is, either, then_on}
 use Rattle.ios.proofs.Stages.{standard_log, extended_log, destination_ports, destination, source_ports, source}
 
 -- words whose bytes are k and then vs
 pub cons_case : (P : List Spanned → Type 0) (k : List ℕ) (vs : List (List ℕ)) → ((c : ℕ) (us : List Spanned) → map bytes_of us ≡ vs → P (spanned c k ∷ us))
     → (us : List Spanned) → map bytes_of us ≡ k ∷ vs → P us
-cons_case P k vs h [] e = let z : ◌≡◌ {A = ℕ} 0 1 = cc in absurd (omega arith)
+cons_case P k vs h [] e = absurd cc
 cons_case P k vs h (u ∷ us) e =
     let first : u.bytes ≡ k = cc in
     let others : map bytes_of us ≡ vs = cc in
@@ -42,7 +43,7 @@ cons_case P k vs h (u ∷ us) e =
 
 pub nil_case : (P : List Spanned → Type 0) → P [] → (us : List Spanned) → map bytes_of us ≡ [] → P us
 nil_case P h [] e = h
-nil_case P h (u ∷ us) e = let z : ◌≡◌ {A = ℕ} 0 1 = cc in absurd (omega arith)
+nil_case P h (u ∷ us) e = absurd cc
 
 -- words whose bytes are those of two forms
 pub append_case : (P : List Spanned → Type 0) (ss gs : List (List ℕ))
@@ -76,7 +77,7 @@ pub address_takes : (w : List ℕ) (a z c : ℕ) (more : List Spanned) → Addre
 address_takes w a z c more t = ap (λ o. valued o BadAddress c (rest_by z more)) (address_every w a t)
 
 apart : (a : ℕ) (x y : Option ℕ) → x ≡ y → x ≡ Some a → y ≡ None → ⊥
-apart a x y e s n = let z : ◌≡◌ {A = ℕ} 0 1 = cc in omega arith
+apart a x y e s n = cc
 
 -- an address is no keyword
 address_apart : (w : List ℕ) (a : ℕ) (k : List ℕ) → AddressText w a → address_in k ≡ None → named w k ≡ false
@@ -94,13 +95,13 @@ action_takes z c more t = ap (λ o. valued o BadWord c (rest_by z more)) (action
 
 -- a number begins with a digit
 digit_first : (x d q : Bool) (n : ℕ) (o : Option ℕ) → cond (cond x false (cond d q false)) o None ≡ Some n → d ≡ true
-digit_first true d q n o e = let z : ◌≡◌ {A = ℕ} 0 1 = cc in absurd (omega arith)
+digit_first true d q n o e = absurd cc
 digit_first false true q n o e = refl
-digit_first false false q n o e = let z : ◌≡◌ {A = ℕ} 0 1 = cc in absurd (omega arith)
+digit_first false false q n o e = absurd cc
 
 number_digit : (low high n : ℕ) (w : List ℕ) → number_in low high w ≡ Some n → begins_with_digit w ≡ true
-number_digit low high n [] e = let z : ◌≡◌ {A = ℕ} 0 1 = cc in absurd (omega arith)
-number_digit low high n (b ∷ []) e = either (digit b) _ _ _ e (λ is _. is) (λ _ e. let z : ◌≡◌ {A = ℕ} 0 1 = cc in absurd (omega arith))
+number_digit low high n [] e = absurd cc
+number_digit low high n (b ∷ []) e = either (digit b) _ _ _ e (λ is _. is) (λ _ e. absurd cc)
 number_digit low high n (b ∷ c ∷ cs) e = digit_first (eqb b 48) (digit b) (digits (c ∷ cs)) n (within low high (read_on 0 (b ∷ c ∷ cs))) e
 
 protocol_takes : {w : List ℕ} {p : Protocol} (z c : ℕ) (more : List Spanned) → ProtocolText w p
@@ -111,7 +112,7 @@ protocol_takes z c more (igmp e) = ap (λ b. protocol_of (rest_by z (spanned c b
 protocol_takes z c more (tcp e) = ap (λ b. protocol_of (rest_by z (spanned c b ∷ more))) e
 protocol_takes z c more (udp e) = ap (λ b. protocol_of (rest_by z (spanned c b ∷ more))) e
 protocol_takes {w} z c more (number {n} e small) =
-    cond_on (begins_with_digit w) _ _ (number_digit 0 255 n w (ap (number_in 0 255) e ∙ every 0 255 n (omega arith) (omega arith) small))
+    cond-true (begins_with_digit w) _ _ (number_digit 0 255 n w (ap (number_in 0 255) e ∙ every 0 255 n (omega arith) (omega arith) small))
     ∙ then_on (λ n more. Ok (Number n, more)) (number_takes 0 255 n z c w more (omega arith) e (omega arith) small)
 
 host_takes : (w : List ℕ) (a z c : ℕ) (more : List Spanned) → AddressText w a → host_of (rest_by z (spanned c w ∷ more)) ≡ Ok (network a 0, rest_by z more)
@@ -126,8 +127,8 @@ network_takes more (any {k} e) = one_word network_of k _ more (λ z c. ap (λ b.
 network_takes more (host {k} {w} {a} e t) = two_words network_of k w _ more
     (λ z c d. ap (λ b. network_of (rest_by z (spanned c b ∷ (spanned d w ∷ more)))) e ∙ host_takes w a z d more t)
 network_takes more (pair {w} {v} {a} {m} t u) = two_words network_of w v _ more
-    (λ z c d. cond_off (named w (codes "any")) _ _ (address_apart w a (codes "any") t refl)
-    ∙ cond_off (named w (codes "host")) _ _ (address_apart w a (codes "host") t refl)
+    (λ z c d. cond-false (named w (codes "any")) _ _ (address_apart w a (codes "any") t refl)
+    ∙ cond-false (named w (codes "host")) _ _ (address_apart w a (codes "host") t refl)
     ∙ then_on wildcard_of (address_takes w a z c (spanned d v ∷ more) t)
     ∙ wildcard_takes v a m z d more u)
 
@@ -136,16 +137,16 @@ source_takes more end (side (any {k} e)) = one_word source_of k _ more (λ z c. 
 source_takes more end (side (host {k} {w} {a} e t)) = two_words source_of k w _ more
     (λ z c d. ap (λ b. source_of (rest_by z (spanned c b ∷ (spanned d w ∷ more)))) e ∙ host_takes w a z d more t)
 source_takes more end (side (pair {w} {v} {a} {m} t u)) = two_words source_of w v _ more
-    (λ z c d. cond_off (named w (codes "any")) _ _ (address_apart w a (codes "any") t refl)
-    ∙ cond_off (named w (codes "host")) _ _ (address_apart w a (codes "host") t refl)
+    (λ z c d. cond-false (named w (codes "any")) _ _ (address_apart w a (codes "any") t refl)
+    ∙ cond-false (named w (codes "host")) _ _ (address_apart w a (codes "host") t refl)
     ∙ then_on lone_of (address_takes w a z c (spanned d v ∷ more) t)
-    ∙ cond_off (named v (codes "log")) _ _ (address_apart v m (codes "log") u refl)
+    ∙ cond-false (named v (codes "log")) _ _ (address_apart v m (codes "log") u refl)
     ∙ wildcard_takes v a m z d more u)
 source_takes more end (lone {w} {a} t) = one_word source_of w _ more
-    (λ z c. cond_off (named w (codes "any")) _ _ (address_apart w a (codes "any") t refl)
-    ∙ cond_off (named w (codes "host")) _ _ (address_apart w a (codes "host") t refl)
+    (λ z c. cond-false (named w (codes "any")) _ _ (address_apart w a (codes "any") t refl)
+    ∙ cond-false (named w (codes "host")) _ _ (address_apart w a (codes "host") t refl)
     ∙ then_on lone_of (address_takes w a z c more t)
-    ∙ cond_on (closed_by more) _ _ end)
+    ∙ cond-true (closed_by more) _ _ end)
 
 port_takes : {w : List ℕ} {n : ℕ} (z c : ℕ) (more : List Spanned) → PortText w n → port_of (rest_by z (spanned c w ∷ more)) ≡ Ok (n, rest_by z more)
 port_takes {w} {n} z c more t = number_takes 0 65535 n z c w more (omega arith) t.bytes (omega arith) t.small
@@ -157,8 +158,8 @@ NoTest ws = (next_by ws (codes "eq") ≡ false) × (next_by ws (codes "neq") ≡
 
 absent_test : (z : ℕ) (more : List Spanned) → NoTest more → test_of (rest_by z more) ≡ Ok (AnyPort, rest_by z more)
 absent_test z more h =
-    cond_off (next_by more (codes "eq")) _ _ h.0 ∙ cond_off (next_by more (codes "neq")) _ _ h.1 ∙ cond_off (next_by more (codes "lt")) _ _ h.2
-    ∙ cond_off (next_by more (codes "gt")) _ _ h.3 ∙ cond_off (next_by more (codes "range")) _ _ h.4
+    cond-false (next_by more (codes "eq")) _ _ h.0 ∙ cond-false (next_by more (codes "neq")) _ _ h.1 ∙ cond-false (next_by more (codes "lt")) _ _ h.2
+    ∙ cond-false (next_by more (codes "gt")) _ _ h.3 ∙ cond-false (next_by more (codes "range")) _ _ h.4
 
 absent_ports : (p : Protocol) (z : ℕ) (more : List Spanned) → NoTest more → ports_of p (rest_by z more) ≡ Ok (AnyPort, rest_by z more)
 absent_ports p z more h = elim (takes_ports p) as (λ b. cond b (test_of (rest_by z more)) (Ok (AnyPort, rest_by z more)) ≡ Ok (AnyPort, rest_by z more))
@@ -169,7 +170,7 @@ test_takes : (p : Protocol) (k w : List ℕ) (n : ℕ) (test : ℕ → PortTest)
     → ((z c : ℕ) (ws : List Spanned) → test_of (rest_by z (spanned c k ∷ ws)) ≡ onward (port_of (rest_by z ws)) (λ n after. Ok (test n, after)))
     → Takes (ports_of p) (k ∷ (w ∷ [])) (test n) more
 test_takes p k w n test more takes t is = two_words (ports_of p) k w (test n) more
-    (λ z c d. cond_on (takes_ports p) _ _ takes ∙ is z c (spanned d w ∷ more) ∙ then_on (λ n after. Ok (test n, after)) (port_takes z d more t))
+    (λ z c d. cond-true (takes_ports p) _ _ takes ∙ is z c (spanned d w ∷ more) ∙ then_on (λ n after. Ok (test n, after)) (port_takes z d more t))
 
 ports_takes : (p : Protocol) {vs : List (List ℕ)} {t : PortTest} (more : List Spanned) → NoTest more → ports_allowed p t ≡ true → PortsText vs t
     → Takes (ports_of p) vs t more
@@ -181,11 +182,11 @@ ports_takes p more h allowed (gt {k} {w} {n} e t) = test_takes p k w n Gt more a
 ports_takes p more h allowed (range {k} {w} {v} {a} {b} e t u le) = λ z.
     cons_case (λ us. ports_of p (rest_by z (us ++ more)) ≡ Ok (Range a b, rest_by z more)) k (w ∷ (v ∷ []))
     (λ c. two_words (λ r. ports_of p (rest_by r.size (spanned c k ∷ r.words))) w v (Range a b) more
-    (λ z d g. cond_on (takes_ports p) _ _ allowed
+    (λ z d g. cond-true (takes_ports p) _ _ allowed
     ∙ ap (λ b. test_of (rest_by z (spanned c b ∷ (spanned d w ∷ (spanned g v ∷ more))))) e
     ∙ then_on (λ a more. onward (port_of more) (λ b after. forward_range a b (place more) after)) (port_takes z d (spanned g v ∷ more) t)
     ∙ then_on (λ b after. forward_range a b g after) (port_takes z g more u)
-    ∙ cond_on (leb a b) _ _ (le-leb a b le))
+    ∙ cond-true (leb a b) _ _ (le-leb a b le))
     z)
 
 log_takes : {gs : List (List ℕ)} {g : Bool} → LogText gs g → (z : ℕ) (us : List Spanned) → map bytes_of us ≡ gs → log_of (rest_by z us) ≡ Ok (g, rest_by z [])

@@ -1,6 +1,5 @@
 -- The front of line memory after reading. Assumes nothing.
-use Rattle.std.proofs.Common.{◌≡◌, ℕ, suc, ◌-◌, ◌≤◌, List, [], ◌∷◌, map, length, take, Ok, sym, refl, ap, ◌∙◌, arith}
-use native.Mathlib.Nat.{sub-zero}
+use Rattle.std.proofs.Common.{◌≡◌, ℕ, suc, ◌≤◌, List, [], ◌∷◌, map, length, take, Ok, sym, refl, ap, ◌∙◌, arith}
 use Rattle.std.proofs.lemmas.List.{take-map}
 use Rattle.acl.specs.declared.line.Line.{Line}
 use Rattle.acl.specs.Shapes.{Shape, shape}
@@ -22,9 +21,9 @@ length_over (s ∷ ss) (o ∷ old) = ap suc (length_over ss old)
 -- the front of the memory holds the lines of the text
 pub lines_read : (text : List ℕ) (room : ℕ) (r : Reading) (old : List Shape) (memory : List Line)
     → Ok r ≡ read_of text room → ReadingStands → length old ≡ room → map shape memory ≡ over (text_of text).lines old
-    → map shape (take (r.count - 0) memory) ≡ (text_of text).lines
+    → map shape (take r.count memory) ≡ (text_of text).lines
 lines_read text room r old memory answer stands same written =
     let ss = (text_of text).lines in
     let sound = stands.sound text room r (sym answer) in
-    ap (λ j. map shape (take j memory)) (sub-zero r.count) ∙ sym (take-map shape r.count memory) ∙ ap (take r.count) written
+    sym (take-map shape r.count memory) ∙ ap (take r.count) written
     ∙ ap (λ j. take j (over ss old)) sound.1 ∙ over_front ss old (omega (arith, sound.1, sound.2))

@@ -1,4 +1,3 @@
-pub mod Openings
 pub mod Scans
 pub mod Texts
 pub mod Forms

@@ -197,7 +197,7 @@ other_reasons bs f e nine = false≢true (sym why ∙ ap (λ n. eqb n 9) nine) w
       → cond x (room_for 1024 (counted_by n (length ss) o)) (Err (fault_at TooLong 0 0)) ≡ Err f → Other f.refusal
   go false n ss o h e = let i : fault_at TooLong 0 0 ≡ f = cc in rw (← i)
   go true n ss (Some i) h e = let j : i ≡ f = cc in rw (← j) h
-  go true n ss None h e = let never = rw (le-leb (length ss) 1024 (omega arith)) at e in let z : ◌≡◌ {A = ℕ} 0 1 = cc in absurd (omega arith)
+  go true n ss None h e = let never = rw (le-leb (length ss) 1024 (omega arith)) at e in absurd cc
 
   why : Other f.refusal
   why = go (leb (length bs) 65536) (text_of bs).known (text_of bs).lines (text_of bs).fault (scan_ends 1 0 None (text_lines bs) (omega arith)) e

@@ -1,5 +1,6 @@
 -- What a text line says is what the grammar says of its words, both ways. Assumes nothing.
 use Rattle.std.proofs.Common.{◌≡◌, ℕ, ◌≤◌, true, false, cond, eqb, ◌⊎◌, List, [], ◌∷◌, ◌++◌, map, Some, None, Ok, Err, codes, decimal, Option, Result, sym, refl, ap, ◌∙◌, subst, inl, inr, ⊎_elim, arith, eq-eqb}
+use Rattle.std.proofs.lemmas.Bool.{cond-true, cond-false}
 use Rattle.std.proofs.lemmas.Bool.Decides.{Decides-eqb, nat_tests}
 use Rattle.acl.specs.declared.refusal.Refusal.TheVariants.{BadNumber}
 use Rattle.acl.specs.declared.terms.Action.{Action}
@@ -17,7 +18,7 @@ use Rattle.ios.specs.Grammar.EntryText.{standard, extended}
 use Rattle.ios.specs.Grammar.LineText.{numbered_line}
 use Rattle.ios.specs.Grammar.RemarkText.{numbered_remark}
 use Rattle.ios.specs.Grammar.PassedText.{blank_line, comment_line}
-use Rattle.ios.proofs.Steps.{named_is, one_split, either, cond_off, cond_on, then_on}
+use Rattle.ios.proofs.Steps.{named_is, one_split, either, then_on}
 use Rattle.ios.proofs.Sound.{ListNumberText, list_number_sound, entry_sound}
 use Rattle.ios.proofs.Complete.{cons_case, nil_case, number_takes, entry_takes}
 
@@ -51,7 +52,7 @@ record Body (known : Option ℕ) (z : ℕ) (ws : List Spanned) (s : Said) : Type
 
 body_ok : (s : Step ListNumber) (t : Said) → body_says s ≡ Ok t → (p : ListNumber × Rest) × (s ≡ Ok p) × (body_says (Ok p) ≡ Ok t)
 body_ok (Ok p) t e = (p, refl, e)
-body_ok (Err s) t e = let k : ◌≡◌ {A = ℕ} 0 1 = cc in absurd (omega arith)
+body_ok (Err s) t e = absurd cc
 
 body : (known : Option ℕ) (z : ℕ) (w : Spanned) (ws : List Spanned) (s : Said) → named w.bytes (codes "access-list") ≡ true
     → body_says (list_number_of known (rest_by z ws)) ≡ Ok s → Body known z (w ∷ ws) s
@@ -70,7 +71,7 @@ body known z w ws s is e =
     }
 
 pub comment_text : (w : List ℕ) (ws : List (List ℕ)) → comment w ≡ true → PassedText (w ∷ ws)
-comment_text [] ws e = let k : ◌≡◌ {A = ℕ} 0 1 = cc in absurd (omega arith)
+comment_text [] ws e = absurd cc
 comment_text (b ∷ bs) ws e = subst (λ c. PassedText ((c ∷ bs) ∷ ws)) (sym ((Decides-eqb b 33).0 e)) comment_line
 
 -- words that say something pass, or open a line of the list
@@ -82,20 +83,20 @@ cases known z (w ∷ ws) s e =
     (λ is e. let p = said_parts (said known None) s e in inl (comment_text w.bytes (map bytes_of ws) is, p.0, p.1))
     (λ _ e. either (named w.bytes (codes "access-list")) _ _ _ e
     (λ is e. inr (body known z w ws s is e))
-    (λ _ e. let k : ◌≡◌ {A = ℕ} 0 1 = cc in absurd (omega arith)))
+    (λ _ e. absurd cc))
 
 line_ok : (n : ℕ) (s : Step EntryShape) (t : Said) → line_said n s ≡ Ok t → (p : EntryShape × Rest) × (s ≡ Ok p) × (t.known ≡ Some n) × (t.entry ≡ Some p.0)
 line_ok n (Ok p) t e = let q = said_parts (said (Some n) (Some p.0)) t e in (p, refl, sym q.0, sym q.1)
-line_ok n (Err s) t e = let k : ◌≡◌ {A = ℕ} 0 1 = cc in absurd (omega arith)
+line_ok n (Err s) t e = absurd cc
 
 pub says_line : (known after : Option ℕ) (e : EntryShape) (z : ℕ) (ws : List Spanned) → says known (rest_by z ws) ≡ Ok (said after (Some e))
     → SaidLine known (map bytes_of ws) after e
 says_line known after e z ws is = ⊎_elim
-    (λ p. let k : ◌≡◌ {A = ℕ} 0 1 = cc p.2 in absurd (omega arith))
+    (λ p. absurd (cc p.2))
     line (cases known z ws (said after (Some e)) is) where
       line : Body known z ws (said after (Some e)) → SaidLine known (map bytes_of ws) after e
       line b = either (next_by b.left (codes "remark")) _ _ _ b.on
-          (λ _ on. let none : None ≡ Some e = (said_parts _ _ on).1 in let k : ◌≡◌ {A = ℕ} 0 1 = cc in absurd (omega arith))
+          (λ _ on. let none : None ≡ Some e = (said_parts _ _ on).1 in absurd cc)
           (λ _ on. let q = line_ok b.list.number (entry_of b.list.family (rest_by z b.left)) (said after (Some e)) on in
           let same : q.0.0 ≡ e = let x : Some e ≡ Some q.0.0 = q.3 in cc in
           let entry : EntryText b.list.family (map bytes_of b.left) e =
@@ -109,7 +110,7 @@ says_line known after e z ws is = ⊎_elim
 
 -- the next word is k
 next_word : (k : List ℕ) (ws : List Spanned) → next_by ws k ≡ true → (w : List ℕ) × (vs : List (List ℕ)) × (w ≡ k) × (map bytes_of ws ≡ w ∷ vs)
-next_word k [] e = let z : ◌≡◌ {A = ℕ} 0 1 = cc in absurd (omega arith)
+next_word k [] e = absurd cc
 next_word k (w ∷ ws) e = (w.bytes, map bytes_of ws, named_is w.bytes k e, refl)
 
 pub says_nothing : (known after : Option ℕ) (z : ℕ) (ws : List Spanned) → says known (rest_by z ws) ≡ Ok (said after None)
@@ -127,7 +128,7 @@ says_nothing known after z ws is = ⊎_elim (λ p. inl (p.0, sym p.1)) (λ b. in
       })
       (λ _ on. let q = line_ok b.list.number (entry_of b.list.family (rest_by z b.left)) (said after None) on in
       let none : None ≡ Some q.0.0 = q.3 in
-      let k : ◌≡◌ {A = ℕ} 0 1 = cc in absurd (omega arith))
+      absurd cc)
 
 passed_by : {vs : List (List ℕ)} (known : Option ℕ) (z : ℕ) → PassedText vs → (us : List Spanned) → map bytes_of us ≡ vs
     → says known (rest_by z us) ≡ Ok (said known None)
@@ -139,7 +140,7 @@ passed_says known z ws t = passed_by known z t ws refl
 
 follows_agreed : (known : Option ℕ) (n c : ℕ) (f : Family) (r : Rest) → Follows known n → agreed known c (list_number n f) r ≡ Ok (list_number n f, r)
 follows_agreed None n c f r h = refl
-follows_agreed (Some k) n c f r h = cond_on (eqb k n) _ _ (eq-eqb k n h)
+follows_agreed (Some k) n c f r h = cond-true (eqb k n) _ _ (eq-eqb k n h)
 
 -- lists have the numbers 1–2699
 pub family_range : (n : ℕ) (f : Family) → family_of n ≡ Some f → (1 ≤ n) × (n ≤ 2699)
@@ -191,7 +192,7 @@ line_by {n} {vs} {e} known z (numbered_line {f} {k} {w} {ws} key is family entry
     let P : List Spanned → Type 0 = λ us. says known (rest_by z us) ≡ Ok (said (Some n) (Some e)) in
     cons_case P k (w ∷ ws) (λ c. cons_case (λ us. P (spanned c k ∷ us)) w ws (λ d us rest.
     opened known n f k w z c d us key is family follows
-    ∙ cond_off (next_by us (codes "remark")) _ _ (entry_no_remark entry us rest)
+    ∙ cond-false (next_by us (codes "remark")) _ _ (entry_no_remark entry us rest)
     ∙ ap (line_said n) (entry_takes entry z us rest)))
 
 pub line_says_lem : (known : Option ℕ) (n : ℕ) (e : EntryShape) (z : ℕ) (ws : List Spanned) → LineText n (map bytes_of ws) e → Follows known n

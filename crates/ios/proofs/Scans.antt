@@ -1,54 +1,15 @@
 -- The reader's loops over the text lines. Assumes nothing.
-use Rattle.std.proofs.Common.{◌≡◌, ℕ, zero, suc, ◌+◌, ◌-◌, ◌<◌, ◌≤◌, List, [], ◌∷◌, ◌++◌, map, length, take, drop, set, Some, None, Ok, Err, Option, Result, sym, refl, ap, ◌∙◌, add-zero, arith, take-append-drop, rules}
+use Rattle.std.proofs.Common.{◌≡◌, ℕ, zero, suc, ◌+◌, ◌-◌, ◌<◌, ◌≤◌, List, [], ◌∷◌, ◌++◌, map, length, take, drop, set, Some, Ok, Option, Result, sym, refl, ap, ◌∙◌, arith}
 use Rattle.acl.specs.declared.line.Line.{Line}
-use Rattle.acl.specs.declared.refusal.Refusal.TheVariants.{TooManyLines}
 use Rattle.acl.specs.Shapes.{Shape, shape}
 use Rattle.words.specs.Lines.{text_lines}
 use Rattle.ios.specs.declared.entry.Entry.{Entry}
 use Rattle.ios.specs.declared.outcome.Fault.{Fault}
 use Rattle.ios.specs.declared.outcome.Reading.{Reading}
-use Rattle.ios.specs.declared.said.Said.{Said as CodeSaid}
 use Rattle.ios.specs.declared.state.State.{State}
-use Rattle.ios.specs.Entries.{EntryShape, entry_shape, numbered}
-use Rattle.ios.specs.Parsing.{line_says}
-use Rattle.ios.specs.Shown.{entry_some, said_ok}
-use Rattle.ios.specs.Reading.{Text, text_by, added, refused, taken, fault_at, scan_by, scan_entry, scan, text_of, counted_by, counted, over}
+use Rattle.ios.specs.Entries.{entry_shape, numbered}
+use Rattle.ios.specs.Reading.{Text, scan, text_of, counted_by, counted, over}
 use Rattle.ios.specs.Folding.{stepped, Steps}
-
-abbrev pub state_of : ℕ → Option ℕ → ℕ → State
-state_of t n k = record { line = t; known = n; count = k }
-
-in_room : (t k : ℕ) (e : EntryShape) (rest : Text) → k < 1024 → taken t k e rest ≡ added (numbered (k + 1) e) rest
-in_room t k e rest h = search rules
-
-no_room : (t k : ℕ) (e : EntryShape) (rest : Text) → 1024 ≤ k → taken t k e rest ≡ refused (fault_at TooManyLines t 0)
-no_room t k e rest h = search rules
-
--- what a text line that says an entry adds to the text
-says_entry : (t k : ℕ) (known : Option ℕ) (bytes : List ℕ) (said : CodeSaid) (e : Entry) (go : Option ℕ → ℕ → Text)
-    → said_ok (Ok said) ≡ line_says known bytes → said.entry ≡ Some e
-    → scan_by t k (line_says known bytes) go ≡ taken t k (entry_shape e) (go said.known (k + 1))
-says_entry t k known bytes said e go s is =
-    ap (λ r. scan_by t k r go) (sym s) ∙ ap (λ o. scan_entry t k (entry_some o) (go said.known)) is
-
--- a step that adds a line, and one that finds too many
-pub step_entry : (s : State) (bytes : List ℕ) (said : CodeSaid) (e : Entry) → said_ok (Ok said) ≡ line_says s.known bytes → said.entry ≡ Some e → s.count < 1024
-    → Steps s (state_of (s.line + 1) said.known (s.count + 1)) bytes (Ok (Some e))
-step_entry s bytes said e h is lt = record {
-  text = λ go. says_entry (s.line + 1) s.count s.known bytes said e go h is ∙ in_room (s.line + 1) s.count (entry_shape e) _ lt;
-  line = refl;
-  count = refl;
-  few = omega arith;
-}
-
-pub step_many : (s : State) (bytes : List ℕ) (said : CodeSaid) (e : Entry) → said_ok (Ok said) ≡ line_says s.known bytes → said.entry ≡ Some e → 1024 ≤ s.count → s.count ≤ 1024
-    → Steps s (state_of (s.line + 1) said.known s.count) bytes (Err (fault_at TooManyLines (s.line + 1) 0))
-step_many s bytes said e h is ge le = record {
-  text = λ go. says_entry (s.line + 1) s.count s.known bytes said e go h is ∙ no_room (s.line + 1) s.count (entry_shape e) _ ge;
-  line = refl;
-  count = sym (add-zero s.count);
-  few = le;
-}
 
 -- what is still to be read in a state, with these bytes left
 abbrev pub on_from : State → List ℕ → Text
@@ -61,10 +22,6 @@ step_on before after left more bytes r cut s =
     ap (scan (before.line + 1) before.count before.known) cut
     ∙ s.text (λ n m. scan (before.line + 1 + 1) m n (text_lines more))
     ∙ ap (λ t. stepped r after.count (scan (t + 1) after.count after.known (text_lines more))) (sym s.line)
-
--- at the end of the text
-none_on : (s : State) (left : List ℕ) → left ≡ [] → on_from s left ≡ text_by s.known [] None
-none_on s left e = ap (λ l. on_from s l) e
 
 -- a text's answer, where k lines stand before the rest of it
 abbrev pub counted_on : ℕ → Text → Result Reading Fault
@@ -89,19 +46,6 @@ pub record Filling (text : List ℕ) (old : List Shape) (room : ℕ) (s : State)
   pub few : s.count ≤ 1024
   pub fits : s.count + length (on_from s left).lines ≤ room
   pub so_far : over (text_of text).lines old ≡ take s.count (map shape m) ++ over (on_from s left).lines (drop s.count (map shape m))
-
--- nothing more is written once the rest has no line
-stops : (text : List ℕ) (old : List Shape) (room : ℕ) (s : State) (left : List ℕ) (m : List Line) → Filling text old room s left m → (on_from s left).lines ≡ [] → map shape m ≡ over (text_of text).lines old
-stops text old room s left m h e =
-    sym (h.so_far ∙ ap (λ ls. take s.count (map shape m) ++ over ls (drop s.count (map shape m))) e ∙ take-append-drop s.count (map shape m))
-
-pub filling_end : (text : List ℕ) (old : List Shape) (room : ℕ) (s : State) (left : List ℕ) (m : List Line) → Filling text old room s left m → left ≡ [] → map shape m ≡ over (text_of text).lines old
-filling_end text old room s left m h e = stops text old room s left m h (ap (λ t. t.lines) (none_on s left e))
-
-pub filling_err : (text : List ℕ) (old : List Shape) (room : ℕ) (before after : State) (left more bytes : List ℕ) (m : List Line) (f : Fault)
-    → Filling text old room before left m → text_lines left ≡ bytes ∷ text_lines more → Steps before after bytes (Err f) → map shape m ≡ over (text_of text).lines old
-filling_err text old room before after left more bytes m f h cut s =
-    stops text old room before left m h (ap (λ t. t.lines) (step_on before after left more bytes (Err f) cut s))
 
 pub filling_some : (text : List ℕ) (old : List Shape) (room : ℕ) (before after : State) (left more bytes : List ℕ) (m : List Line) (e : Entry) (x : Line)
     → Filling text old room before left m → text_lines left ≡ bytes ∷ text_lines more → length more < length left → Steps before after bytes (Ok (Some e))

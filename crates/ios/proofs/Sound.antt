@@ -1,5 +1,6 @@
 -- What a step of reading takes has the form that the grammar says. Assumes nothing.
 use Rattle.std.proofs.Common.{◌≡◌, ℕ, ◌^◌, ◌<◌, Bool, true, false, cond, eqb, leb, List, [], ◌∷◌, ◌++◌, map, Some, None, Ok, codes, Option, sym, refl, ap, ◌∙◌, subst, append-nil, arith, leb-true}
+use Rattle.std.proofs.lemmas.Bool.{cond-true}
 use Rattle.std.proofs.lemmas.Bool.Decides.{Decides-eqb}
 use Rattle.acl.specs.declared.refusal.Refusal.TheVariants.{BadWord, BadAddress, BadNumber}
 use Rattle.acl.specs.declared.terms.Action.{Action}
@@ -33,7 +34,7 @@ use Rattle.ios.specs.Grammar.LogText.{no_log, logged}
 use Rattle.ios.specs.Grammar.EntryText.{standard, extended}
 use Rattle.ios.proofs.Forms.{One, NumberText, headed}
 use Rattle.words.proofs.Addresses.{address_only}
-use Rattle.ios.proofs.Steps.{ok_parts, onward_ok, valued_ok, named_is, cond_on, Sound, digit_looks, closed_looks, place_looks, took_as, done, bind, worded}
+use Rattle.ios.proofs.Steps.{ok_parts, onward_ok, valued_ok, named_is, Sound, digit_looks, closed_looks, place_looks, took_as, done, bind, worded}
 use Rattle.ios.proofs.Steps.{of_one, either, choose, keyed, Whole, bind_whole, close_whole}
 use Rattle.ios.proofs.Stages.{standard_log, extended_log, destination_ports, destination, source_ports, source}
 
@@ -52,7 +53,7 @@ by_name R w k v a o e this other =
     either (named w k) (Some v) o (Some a) e (λ is e. let same : v ≡ a = cc in subst (R w) same (this (named_is w k is))) (λ _ e. other e)
 
 no_value : {A : Type 0} (a : A) (P : Type 0) → None ≡ Some a → P
-no_value a P e = let k : ◌≡◌ {A = ℕ} 0 1 = cc in absurd (omega arith)
+no_value a P e = absurd cc
 
 pub action_sound : Sound action_of (One ActionText)
 action_sound = worded ActionText action_named BadWord named_action where
@@ -136,7 +137,7 @@ upper_sound a us o z ws t r e =
           (of_one (λ us. PortsText (codes "range" ∷ (us ++ (vs ++ []))) (Range a b)) us o
           (λ w t. of_one (λ vs. PortsText (codes "range" ∷ (w ∷ (vs ++ []))) (Range a b)) vs p
           (λ v u. range refl t u (leb-true a b le)))) z ws t r)
-          (λ _ _ _ _ e. let k : ◌≡◌ {A = ℕ} 0 1 = cc in absurd (omega arith)))
+          (λ _ _ _ _ e. absurd cc))
 
 range_sound : Sound range_of (λ us t. PortsText (codes "range" ∷ us) t)
 range_sound = bind port_of (λ a more. onward (port_of more) (λ b after. forward_range a b (place more) after)) port_sound upper_sound
@@ -186,8 +187,8 @@ agreed_ok : (known : Option ℕ) (c : ℕ) (l m : ListNumber) (r s : Rest) → a
 agreed_ok None c l m r s e = let p = ok_parts l m r s e in (tt, p.0, p.1, λ q. ap (λ x. Ok (x, q)) p.0)
 agreed_ok (Some n) c l m r s e = either (eqb n l.number) _ _ _ e
     (λ is e. let p = ok_parts l m r s e in
-    ((Decides-eqb n l.number).0 is, p.0, p.1, λ q. cond_on (eqb n l.number) _ _ is ∙ ap (λ x. Ok (x, q)) p.0))
-    (λ _ e. let k : ◌≡◌ {A = ℕ} 0 1 = cc in absurd (omega arith))
+    ((Decides-eqb n l.number).0 is, p.0, p.1, λ q. cond-true (eqb n l.number) _ _ is ∙ ap (λ x. Ok (x, q)) p.0))
+    (λ _ e. absurd cc)
 
 pub list_number_sound : (known : Option ℕ) → Sound (list_number_of known) (One (ListNumberText known))
 list_number_sound known z ws l r e =

@@ -1,5 +1,6 @@
 -- How steps of reading follow one another, and what that says of the words that they take. Assumes nothing.
-use Rattle.std.proofs.Common.{◌≡◌, ℕ, Bool, true, false, cond, List, [], ◌∷◌, ◌++◌, map, Some, None, Ok, Err, Option, sym, refl, ap, ◌∙◌, subst, append_assoc, arith}
+use Rattle.std.proofs.Common.{◌≡◌, ℕ, Bool, true, false, cond, List, [], ◌∷◌, ◌++◌, map, Some, None, Ok, Err, Option, sym, refl, ap, ◌∙◌, subst, append_assoc}
+use Rattle.std.proofs.lemmas.Bool.{cond-true, cond-false}
 use mathlib.Core.List.{map-append}
 use Rattle.std.proofs.lemmas.Slice.Eq.{bytes_eq-Decides}
 use Rattle.acl.specs.declared.refusal.Refusal.{Refusal}
@@ -19,20 +20,14 @@ ok_parts {A} a b r s e =
 -- what follows a step that succeeded
 pub onward_ok : {A B : Type 0} (s : Step A) (f : A → Rest → Step B) (q : B × Rest) → onward s f ≡ Ok q → (p : A × Rest) × (s ≡ Ok p) × (f p.0 p.1 ≡ Ok q)
 onward_ok (Ok p) f q e = (p, refl, e)
-onward_ok (Err s) f q e = let k : ◌≡◌ {A = ℕ} 0 1 = cc in absurd (omega arith)
+onward_ok (Err s) f q e = absurd cc
 
 pub valued_ok : {A : Type 0} (o : Option A) (why : Refusal) (c : ℕ) (r : Rest) (a : A) (s : Rest) → valued o why c r ≡ Ok (a, s) → (o ≡ Some a) × (s ≡ r)
-valued_ok None why c r a s e = let k : ◌≡◌ {A = ℕ} 0 1 = cc in absurd (omega arith)
+valued_ok None why c r a s e = absurd cc
 valued_ok (Some b) why c r a s e = let p = ok_parts b a r s e in (ap (λ x. Some x) p.0, sym p.1)
 
 pub named_is : (w k : List ℕ) → named w k ≡ true → w ≡ k
 named_is w k e = (bytes_eq-Decides w k).0 e
-
-pub cond_off : {A : Type 0} (b : Bool) (s t : A) → b ≡ false → cond b s t ≡ t
-cond_off b s t e = ap (λ x. cond x s t) e
-
-pub cond_on : {A : Type 0} (b : Bool) (s t : A) → b ≡ true → cond b s t ≡ s
-cond_on b s t e = ap (λ x. cond x s t) e
 
 -- where a step goes on
 pub then_on : {A B : Type 0} {s : Step A} {a : A} {r : Rest} (f : A → Rest → Step B) → s ≡ Ok (a, r) → onward s f ≡ f a r
@@ -128,7 +123,7 @@ bind {T} step f sound then z ws b r e =
 -- a step that reads one word
 pub worded : {A : Type 0} (R : List ℕ → A → Type 0) (g : List ℕ → Option A) (why : Refusal) → ((w : List ℕ) (a : A) → g w ≡ Some a → R w a)
     → Sound (λ r. onward (expect_of r) (λ w more. valued (g w.bytes) why w.column more)) (One R)
-worded R g why sound z [] a r e = let k : ◌≡◌ {A = ℕ} 0 1 = cc in absurd (omega arith)
+worded R g why sound z [] a r e = absurd cc
 worded R g why sound z (w ∷ ws) a r e =
     let p = valued_ok (g w.bytes) why w.column (rest_by z ws) a r e in
     record {
@@ -163,15 +158,15 @@ pub choose : {A : Type 0} {R : List (List ℕ) → A → Type 0} {f g : Rest →
 choose {f} {g} P looks on off z ws a r e =
     let step : Rest → Step _ = λ r. cond (P r.words) (f r) (g r) in
     either (P ws) _ _ _ e
-    (λ is x. took_as f step z ws a r (on z ws a r is x) (λ more. cond_on (P (headed ws more)) _ _ (looks ws more ∙ is)))
-    (λ is x. took_as g step z ws a r (off z ws a r x) (λ more. cond_off (P (headed ws more)) _ _ (looks ws more ∙ is)))
+    (λ is x. took_as f step z ws a r (on z ws a r is x) (λ more. cond-true (P (headed ws more)) _ _ (looks ws more ∙ is)))
+    (λ is x. took_as g step z ws a r (off z ws a r x) (λ more. cond-false (P (headed ws more)) _ _ (looks ws more ∙ is)))
 
 -- a step after a keyword, or another without it
 pub keyed : {A : Type 0} {T : List (List ℕ) → A → Type 0} {f g : Rest → Step A} (k : List ℕ)
     → Sound f (λ us a. T (k ∷ us) a) → Sound g T → Sound (λ r. cond (next_by r.words k) (f (passed r)) (g r)) T
 keyed {A} {T} {f} k hf hg = choose (λ ws. next_by ws k) (next_looks k) found hg where
   found : (z : ℕ) (ws : List Spanned) (a : A) (r : Rest) → next_by ws k ≡ true → f (passed (rest_by z ws)) ≡ Ok (a, r) → Took T (λ r. f (passed r)) z ws a r
-  found z [] a r is e = let k : ◌≡◌ {A = ℕ} 0 1 = cc in absurd (omega arith)
+  found z [] a r is e = absurd cc
   found z (w ∷ ws) a r is e =
       let u = hf z ws a r e in
       record {
@@ -198,4 +193,4 @@ bind_whole P step f sound then z ws b r e =
 
 pub close_whole : (P : List (List ℕ) → EntryShape → Type 0) (e : EntryShape) → P [] e → Whole (close_of e) P
 close_whole P e h z [] d r is = subst (P []) (ok_parts e d (rest_by z []) r is).0 h
-close_whole P e h z (w ∷ ws) d r is = let k : ◌≡◌ {A = ℕ} 0 1 = cc in absurd (omega arith)
+close_whole P e h z (w ∷ ws) d r is = absurd cc

@@ -27,7 +27,7 @@ use Rattle.ios.proofs.Began.{says_began}
 short : (known : Option ℕ) (l : List ℕ) (s : Said) → line_says known l ≡ Ok s → (length l ≤ 256) × (says known (rest_of l) ≡ Ok s)
 short known l s = go (ltb 256 (length l)) refl where
   go : (x : Bool) → ltb 256 (length l) ≡ x → cond x (Err (stop TooLong 256)) (says known (rest_of l)) ≡ Ok s → (length l ≤ 256) × (says known (rest_of l) ≡ Ok s)
-  go true h e = let z : ◌≡◌ {A = ℕ} 0 1 = cc in absurd (omega arith)
+  go true h e = absurd cc
   go false h e = (ltb-false 256 (length l) h, e)
 
 -- and back
@@ -101,13 +101,13 @@ sound_entry t k known l ls after e text true h g more n =
       shapes = ap (λ ss. numbered (k + 1) e ∷ ss) s.shapes;
       few = omega (arith, s.few);
     }
-sound_entry t k known l ls after e text false h g more n = let z : ◌≡◌ {A = ℕ} 0 1 = cc in absurd (omega arith)
+sound_entry t k known l ls after e text false h g more n = absurd cc
 
 -- one text line, by what it says
 sound_line : (t k : ℕ) (known : Option ℕ) (l : List ℕ) (ls : List (List ℕ)) (x : Result Said Stop) → line_says known l ≡ x → k ≤ 1024
     → ((n : Option ℕ) (m : ℕ) → m ≤ 1024 → (rest t ls n m).fault ≡ None → Scanned m n ls (rest t ls n m))
     → (scan_by t k x (rest t ls)).fault ≡ None → Scanned k known (l ∷ ls) (scan_by t k x (rest t ls))
-sound_line t k known l ls (Err s) h few more n = let z : ◌≡◌ {A = ℕ} 0 1 = cc in absurd (omega arith)
+sound_line t k known l ls (Err s) h few more n = absurd cc
 sound_line t k known l ls (Ok s) h few more n = go s.known s.entry h n where
   go : (after : Option ℕ) (e : Option EntryShape) → line_says known l ≡ Ok (said after e)
       → (scan_by t k (Ok (said after e)) (rest t ls)).fault ≡ None → Scanned k known (l ∷ ls) (scan_by t k (Ok (said after e)) (rest t ls))
@@ -213,7 +213,7 @@ stopped_line t k known l ls f (Ok s) h o w more e = go s.known s.entry h e where
 
 scan_stopped : (t k : ℕ) (known : Option ℕ) (ls : List (List ℕ)) (f : Fault) → Known known → at_word f.refusal ≡ true → (scan t k known ls).fault ≡ Some f
     → Stopped t known ls f
-scan_stopped t k known [] f o w e = let z : ◌≡◌ {A = ℕ} 0 1 = cc in absurd (omega arith)
+scan_stopped t k known [] f o w e = absurd cc
 scan_stopped t k known (l ∷ ls) f o w e = stopped_line t k known l ls f (line_says known l) refl o w (λ n m p. scan_stopped (t + 1) m n ls f p w) e
 
 -- a text that is read keeps the limits and has no fault
@@ -227,9 +227,9 @@ read_is : (bs : List ℕ) (room : ℕ) (r : Reading) → read_of bs room ≡ Ok 
 read_is bs room r = go (leb (length bs) 65536) (text_of bs).fault (leb (length (text_of bs).lines) room) refl refl refl where
   go : (x : Bool) (o : Option Fault) (y : Bool) → leb (length bs) 65536 ≡ x → (text_of bs).fault ≡ o → leb (length (text_of bs).lines) room ≡ y
       → cond x (room_for room (counted_by (text_of bs).known (length (text_of bs).lines) o)) (Err (fault_at TooLong 0 0)) ≡ Ok r → Read bs room r
-  go false o y h f g e = let z : ◌≡◌ {A = ℕ} 0 1 = cc in absurd (omega arith)
-  go true (Some i) y h f g e = let z : ◌≡◌ {A = ℕ} 0 1 = cc in absurd (omega arith)
-  go true None false h f g e = let z : ◌≡◌ {A = ℕ} 0 1 = cc in absurd (omega arith)
+  go false o y h f g e = absurd cc
+  go true (Some i) y h f g e = absurd cc
+  go true None false h f g e = absurd cc
   go true None true h f g e = record { small = leb-true (length bs) 65536 h; whole = f; is = cc; fits = leb-true (length (text_of bs).lines) room g }
 
 -- a text that is refused at a word has that fault
@@ -239,7 +239,7 @@ fault_is bs room f e w = go (leb (length bs) 65536) (text_of bs).fault (leb (len
       → cond x (room_for room (counted_by (text_of bs).known (length (text_of bs).lines) o)) (Err (fault_at TooLong 0 0)) ≡ Err f → o ≡ Some f
   go false o y g e = let r : TooLong ≡ f.refusal = cc in absurd (false≢true (ap at_word r ∙ w))
   go true (Some i) y g e = cc
-  go true None true g e = let z : ◌≡◌ {A = ℕ} 0 1 = cc in absurd (omega arith)
+  go true None true g e = absurd cc
   go true None false g e = let r : ShortMemory ≡ f.refusal = cc in absurd (false≢true (ap at_word r ∙ w))
 
 -- a text without a fault, within the limits, is read

@@ -117,6 +117,11 @@ source_of r =
     (cond (next_is r (codes "host")) (host_of (passed r))
     (onward (address_of r) lone_of))
 
+-- the addresses of a side, by the form of the list
+abbrev pub addresses_of : Family → Rest → Step Network
+addresses_of Standard r = source_of r
+addresses_of Extended r = network_of r
+
 -- the next word as a port
 abbrev pub port_of : Rest → Step ℕ
 port_of r = number_of 0 65535 r

@@ -1,5 +1,8 @@
-ghost use Rattle.std.specs.Prelude.{◌≡◌};
+ghost use Rattle.std.specs.Prelude.{◌≡◌, ok_or};
+ghost use Rattle.acl.specs.declared.refusal.Refusal.TheVariants.{BadNumber};
 ghost use Rattle.ios.specs.Parsing.{family_of};
+
+use acl::refusal::Refusal;
 
 // Which form the lines of a list have, told by its number.
 #[derive(Clone, Copy)]
@@ -22,15 +25,17 @@ pub struct Network {
     pub wildcard: u32,
 }
 
-impl Family {
-    // The form of a list's lines, told by the range in which its number lies.
-    pub fn of(number: u16) -> Option<Family>
-        ensures { result ≡ family_of number }
-    {
+// The form of a list's lines, told by the range in which its number lies.
+impl TryFrom<u16> for Family {
+    type Error = Refusal;
+
+    ghost try_from_gives = { λ number r. r ≡ ok_or (family_of number) BadNumber };
+
+    fn try_from(number: u16) -> Result<Family, Refusal> {
         match number {
-            1..=99 | 1300..=1999 => Some(Family::Standard),
-            100..=199 | 2000..=2699 => Some(Family::Extended),
-            _ => None,
+            1..=99 | 1300..=1999 => Ok(Family::Standard),
+            100..=199 | 2000..=2699 => Ok(Family::Extended),
+            _ => Err(Refusal::BadNumber),
         }
     }
 }

@@ -3,8 +3,10 @@
 
 pub mod entry;
 pub mod family;
+mod numbering;
 pub mod outcome;
 mod parse;
+mod ports;
 pub mod read;
 pub mod said;
 pub mod shown;

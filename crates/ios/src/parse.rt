@@ -6,12 +6,13 @@ ghost use Rattle.ios.specs.Shown.{entry_ok, said_ok};
 
 use crate::entry::Entry;
 use crate::family::{Family, ListNumber, Network};
+use crate::ports::Ports;
 use crate::said::Said;
-use crate::sides::{network, ports, side, standard_source};
+use crate::sides::{addresses, ports, side};
 use crate::terms::{action, list_number, log, next_is, protocol};
 use acl::refusal::Refusal;
 use acl::side::Side;
-use acl::terms::{Action, PortTest, Protocol};
+use acl::terms::{Action, Protocol};
 use words::part::Stop;
 use words::words::Words;
 
@@ -19,17 +20,12 @@ use words::words::Words;
 fn standard_entry(action: Action, source: Network, log: bool) -> Entry
     ensures { entry_shape result ≡ standard_entry action source log }
 {
-    let any = Side {
-        address: 0,
-        wildcard: 0xffff_ffff,
-        ports: PortTest::Any,
-    };
     Entry {
         action,
         protocol: Protocol::Any,
         log,
-        source: side(source, PortTest::Any),
-        destination: any,
+        source: side(source, Ports::ANY),
+        destination: Side::any(),
     }
 }
 
@@ -37,7 +33,7 @@ fn standard_entry(action: Action, source: Network, log: bool) -> Entry
 fn standard(words: &mut Words<'_>, action: Action) -> Result<Entry, Stop>
     ensures { handed (entry_ok result) (rest words.new) ≡ standard_of action (rest words.old) }
 {
-    let source = standard_source(words)?;
+    let source = addresses(words, Family::Standard)?;
     let log = log(words);
     words.end()?;
     Ok(standard_entry(action, source, log))
@@ -48,9 +44,9 @@ fn extended(words: &mut Words<'_>, action: Action) -> Result<Entry, Stop>
     ensures { handed (entry_ok result) (rest words.new) ≡ extended_of action (rest words.old) }
 {
     let protocol = protocol(words)?;
-    let from = network(words)?;
+    let from = addresses(words, Family::Extended)?;
     let from_ports = ports(words, protocol)?;
-    let to = network(words)?;
+    let to = addresses(words, Family::Extended)?;
     let to_ports = ports(words, protocol)?;
     let log = log(words);
     words.end()?;
@@ -95,15 +91,14 @@ fn body(words: &mut Words<'_>, known: Option<u16>) -> Result<Said, Stop>
 fn words_say(words: &mut Words<'_>, known: Option<u16>) -> Result<Said, Stop>
     ensures { said_ok result ≡ says known (rest words.old) }
 {
-    match words.peek() {
-        None => Ok(Said { known, entry: None }),
-        Some(word) if word.opens_comment() => Ok(Said { known, entry: None }),
-        Some(word) if word.is(b"access-list") => {
-            words.pass();
-            body(words, known)
-        }
-        Some(_) => Err(words.stop(Refusal::BadWord)),
+    if words.peek().is_none_or(|word| word.opens_comment()) {
+        return Ok(Said { known, entry: None });
     }
+    if !next_is(words, b"access-list") {
+        return Err(words.stop(Refusal::BadWord));
+    }
+    words.pass();
+    body(words, known)
 }
 
 // What a text line says after the list number that is known; it has at most 256 bytes.

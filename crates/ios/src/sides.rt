@@ -1,11 +1,13 @@
 ghost use Rattle.std.specs.Prelude.{◌≡◌, true, IfOk};
 ghost use Rattle.acl.specs.Shapes.{side_shape};
-ghost use Rattle.acl.specs.Terms.{ordered, ports_narrow, takes_ports, ports_allowed};
-ghost use Rattle.words.specs.Cursor.{rest, handed};
+ghost use Rattle.acl.specs.Terms.{takes_ports, ports_allowed};
+ghost use Rattle.words.specs.Cursor.{rest, passed, handed};
 ghost use Rattle.ios.specs.Entries.{side_of};
-ghost use Rattle.ios.specs.Parsing.{host_of, wildcard_of, network_of, closed_by, source_of, port_of, range_of, test_of, ports_of};
+ghost use Rattle.ios.specs.Parsing.{host_of, wildcard_of, closed_by, addresses_of, port_of, range_of, test_of, ports_of};
+ghost use Rattle.ios.specs.Shown.{ports_ok};
 
-use crate::family::Network;
+use crate::family::{Family, Network};
+use crate::ports::Ports;
 use crate::terms::next_is;
 use acl::refusal::Refusal;
 use acl::side::Side;
@@ -37,35 +39,16 @@ fn wildcard(words: &mut Words<'_>, address: u32) -> Result<Network, Stop>
     Ok(Network { address, wildcard })
 }
 
-// The addresses of a side: `any`, `host A` or `A W`.
-pub(crate) fn network(words: &mut Words<'_>) -> Result<Network, Stop>
-    ensures { handed result (rest words.new) ≡ network_of (rest words.old) }
-{
-    if next_is(words, b"any") {
-        words.pass();
-        return Ok(EVERYWHERE);
-    }
-    if next_is(words, b"host") {
-        words.pass();
-        return host(words);
-    }
-    let address = words.address()?;
-    wildcard(words, address)
-}
-
 // Whether the source of a standard line ends here: with the line, or before `log`.
 fn closed(words: &Words<'_>) -> bool
     ensures { result ≡ closed_by (rest words.now).words }
 {
-    match words.peek() {
-        None => true,
-        Some(word) => word.is(b"log"),
-    }
+    words.peek().is_none_or(|word| word.is(b"log"))
 }
 
-// The source of a standard line: as every side, and an address alone means that host.
-pub(crate) fn standard_source(words: &mut Words<'_>) -> Result<Network, Stop>
-    ensures { handed result (rest words.new) ≡ source_of (rest words.old) }
+// The addresses of a side: `any`, `host A` or `A W`. In a standard line, A alone means host A.
+pub(crate) fn addresses(words: &mut Words<'_>, family: Family) -> Result<Network, Stop>
+    ensures { handed result (rest words.new) ≡ addresses_of family (rest words.old) }
 {
     if next_is(words, b"any") {
         words.pass();
@@ -76,101 +59,88 @@ pub(crate) fn standard_source(words: &mut Words<'_>) -> Result<Network, Stop>
         return host(words);
     }
     let address = words.address()?;
-    if closed(words) {
-        return Ok(Network {
+    match family {
+        Family::Standard if closed(words) => Ok(Network {
             address,
             wildcard: 0,
-        });
+        }),
+        _ => wildcard(words, address),
     }
-    wildcard(words, address)
 }
 
+// The port after a keyword.
 fn port(words: &mut Words<'_>) -> Result<u16, Stop>
-    ensures { handed result (rest words.new) ≡ port_of (rest words.old) }
+    ensures { handed result (rest words.new) ≡ port_of (passed (rest words.old)) }
 {
-    words.number(0, 65535)
+    words.pass();
+    words.number(0, u16::MAX)
 }
 
 // The two ports after `range`, of which the first may not be above the second.
-fn range(words: &mut Words<'_>) -> Result<PortTest, Stop>
-    ensures value { handed result (rest words.new) ≡ range_of (rest words.old) }
-    ensures forward { IfOk result (λ t. ordered t ≡ true) }
-    ensures narrow { IfOk result (λ t. ports_narrow t ≡ true) }
+fn range(words: &mut Words<'_>) -> Result<Ports, Stop>
+    ensures { handed (ports_ok result) (rest words.new) ≡ range_of (passed (rest words.old)) }
 {
     let first = port(words)?;
     let column = words.place();
-    let last = port(words)?;
+    let last = words.number(0, u16::MAX)?;
     if first > last {
         return Err(Stop {
             refusal: Refusal::BackwardRange,
             column,
         });
     }
-    Ok(PortTest::Range(first, last))
+    Ok(Ports {
+        test: PortTest::Range(first, last),
+    })
 }
 
 // A port test, or nothing.
-fn test(words: &mut Words<'_>) -> Result<PortTest, Stop>
-    ensures value { handed result (rest words.new) ≡ test_of (rest words.old) }
-    ensures forward { IfOk result (λ t. ordered t ≡ true) }
-    ensures narrow { IfOk result (λ t. ports_narrow t ≡ true) }
+fn test(words: &mut Words<'_>) -> Result<Ports, Stop>
+    ensures { handed (ports_ok result) (rest words.new) ≡ test_of (rest words.old) }
 {
     match words.peek() {
-        Some(word) if word.is(b"eq") => {
-            words.pass();
-            Ok(PortTest::Eq(port(words)?))
-        }
-        Some(word) if word.is(b"neq") => {
-            words.pass();
-            Ok(PortTest::Neq(port(words)?))
-        }
-        Some(word) if word.is(b"lt") => {
-            words.pass();
-            Ok(PortTest::Lt(port(words)?))
-        }
-        Some(word) if word.is(b"gt") => {
-            words.pass();
-            Ok(PortTest::Gt(port(words)?))
-        }
-        Some(word) if word.is(b"range") => {
-            words.pass();
-            range(words)
-        }
-        _ => Ok(PortTest::Any),
+        Some(word) if word.is(b"eq") => Ok(Ports {
+            test: PortTest::Eq(port(words)?),
+        }),
+        Some(word) if word.is(b"neq") => Ok(Ports {
+            test: PortTest::Neq(port(words)?),
+        }),
+        Some(word) if word.is(b"lt") => Ok(Ports {
+            test: PortTest::Lt(port(words)?),
+        }),
+        Some(word) if word.is(b"gt") => Ok(Ports {
+            test: PortTest::Gt(port(words)?),
+        }),
+        Some(word) if word.is(b"range") => range(words),
+        _ => Ok(Ports::ANY),
     }
 }
 
 fn takes_ports(protocol: Protocol) -> bool
     ensures { result ≡ takes_ports protocol }
 {
-    match protocol {
-        Protocol::Any => false,
-        Protocol::Number(n) => n == 6 || n == 17,
-    }
+    matches!(protocol, Protocol::Number(6 | 17))
 }
 
 // The port test of a side, which only TCP and UDP take.
-pub(crate) fn ports(words: &mut Words<'_>, protocol: Protocol) -> Result<PortTest, Stop>
-    ensures value { handed result (rest words.new) ≡ ports_of protocol (rest words.old) }
-    ensures forward { IfOk result (λ t. ordered t ≡ true) }
-    ensures narrow { IfOk result (λ t. ports_narrow t ≡ true) }
-    ensures allowed { IfOk result (λ t. ports_allowed protocol t ≡ true) }
+pub(crate) fn ports(words: &mut Words<'_>, protocol: Protocol) -> Result<Ports, Stop>
+    ensures value { handed (ports_ok result) (rest words.new) ≡ ports_of protocol (rest words.old) }
+    ensures allowed { IfOk result (λ p. ports_allowed protocol p.test ≡ true) }
 {
     if !takes_ports(protocol) {
-        return Ok(PortTest::Any);
+        return Ok(Ports::ANY);
     }
     test(words)
 }
 
 // A side of a line, with the address bits under the wildcard cleared.
-pub(crate) fn side(network: Network, ports: PortTest) -> Side
-    requires { (ordered ports ≡ true) × (ports_narrow ports ≡ true) }
-    ensures { side_shape result ≡ side_of network ports }
+pub(crate) fn side(network: Network, ports: Ports) -> Side
+    ensures { side_shape result ≡ side_of network ports.test }
 {
     let Network { address, wildcard } = network;
     Side {
         address: address & !wildcard,
         wildcard,
-        ports,
+        ports: ports.test,
     }
 }

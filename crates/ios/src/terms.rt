@@ -1,5 +1,4 @@
-ghost use Rattle.std.specs.Prelude.{◌≡◌, true, IfOk, Ok};
-ghost use Rattle.acl.specs.Terms.{protocol_narrow};
+ghost use Rattle.std.specs.Prelude.{◌≡◌, Ok};
 ghost use Rattle.words.specs.Cursor.{rest, handed, word_shown, expect_of};
 ghost use Rattle.ios.specs.Parsing.{next_is, action_named, action_of, protocol_named, protocol_of, list_number_of, log_of, next_digit};
 ghost use Rattle.ios.specs.Shown.{shown_ok};
@@ -14,23 +13,18 @@ use words::words::Words;
 pub(crate) fn next_is(words: &Words<'_>, keyword: &[u8]) -> bool
     ensures { result ≡ next_is (rest words.now) keyword.now }
 {
-    match words.peek() {
-        None => false,
-        Some(word) => word.is(keyword),
-    }
+    words.peek().is_some_and(|word| word.is(keyword))
 }
 
 // The next word, where one has to stand.
 fn expect<'a>(words: &mut Words<'a>) -> Result<Word<'a>, Stop>
     ensures { handed (shown_ok result) (rest words.new) ≡ expect_of (rest words.old) }
 {
-    match words.peek() {
-        None => Err(words.stop(Refusal::BadWord)),
-        Some(word) => {
-            words.pass();
-            Ok(word)
-        }
-    }
+    let Some(word) = words.peek() else {
+        return Err(words.stop(Refusal::BadWord));
+    };
+    words.pass();
+    Ok(word)
 }
 
 fn action_named(word: Word<'_>) -> Option<Action>
@@ -48,13 +42,10 @@ pub(crate) fn action(words: &mut Words<'_>) -> Result<Action, Stop>
     ensures { handed result (rest words.new) ≡ action_of (rest words.old) }
 {
     let word = expect(words)?;
-    match action_named(word) {
-        Some(action) => Ok(action),
-        None => Err(Stop {
-            refusal: Refusal::BadWord,
-            column: word.part().column,
-        }),
-    }
+    action_named(word).ok_or(Stop {
+        refusal: Refusal::BadWord,
+        column: word.part().column,
+    })
 }
 
 fn protocol_named(word: Word<'_>) -> Option<Protocol>
@@ -74,30 +65,22 @@ fn protocol_named(word: Word<'_>) -> Option<Protocol>
 fn next_digit(words: &Words<'_>) -> bool
     ensures { result ≡ next_digit (rest words.now) }
 {
-    match words.peek() {
-        Some(Word::Number(_) | Word::Address(_)) => true,
-        Some(Word::Keyword(_)) => false,
-        None => false,
-    }
+    matches!(words.peek(), Some(Word::Number(_) | Word::Address(_)))
 }
 
 // A protocol by name, or by number where the word begins with a digit.
 pub(crate) fn protocol(words: &mut Words<'_>) -> Result<Protocol, Stop>
-    ensures value { handed result (rest words.new) ≡ protocol_of (rest words.old) }
-    ensures narrow { IfOk result (λ p. protocol_narrow p ≡ true) }
+    ensures { handed result (rest words.new) ≡ protocol_of (rest words.old) }
 {
     if next_digit(words) {
         let n = words.number(0, 255)?;
         return Ok(Protocol::Number(n as u8));
     }
     let word = expect(words)?;
-    match protocol_named(word) {
-        Some(protocol) => Ok(protocol),
-        None => Err(Stop {
-            refusal: Refusal::BadWord,
-            column: word.part().column,
-        }),
-    }
+    protocol_named(word).ok_or(Stop {
+        refusal: Refusal::BadWord,
+        column: word.part().column,
+    })
 }
 
 // `log`, or nothing
@@ -117,17 +100,12 @@ pub(crate) fn list_number(words: &mut Words<'_>, known: Option<u16>) -> Result<L
 {
     let column = words.place();
     let number = words.number(1, 2699)?;
-    let Some(family) = Family::of(number) else {
+    let family = Family::try_from(number).map_err(|refusal| Stop { refusal, column })?;
+    if known.is_some_and(|known| known != number) {
         return Err(Stop {
-            refusal: Refusal::BadNumber,
-            column,
-        });
-    };
-    match known {
-        Some(known) if known != number => Err(Stop {
             refusal: Refusal::OtherList,
             column,
-        }),
-        _ => Ok(ListNumber { number, family }),
+        });
     }
+    Ok(ListNumber { number, family })
 }

@@ -23,9 +23,7 @@ impl Kind for Bare {
 
     ghost coded = { λ _ a. action_number a };
 
-    ghost small = { Prim.search rules };
-
-    ghost apart = { Prim.search rules };
+    ghost laws = { Prim.search rules };
 
     fn of_line(&self, heard: Heard) -> Action {
         heard.action
@@ -36,9 +34,6 @@ impl Kind for Bare {
     }
 
     fn code(&self, verdict: Action) -> u16 {
-        match verdict {
-            Action::Deny => 0,
-            Action::Permit => 1,
-        }
+        u16::from(verdict)
     }
 }

@@ -5,14 +5,13 @@ ghost use Rattle.kinds.specs.Kinds.{heard_of};
 use crate::heard::{Heard, LineNumber};
 use acl::line::Line;
 
-impl Heard {
-    pub fn of(line: Line) -> Heard
-        ensures { result ≡ heard_of line }
-    {
-        let number = LineNumber { value: line.number };
+impl From<Line> for Heard {
+    ghost from_gives = { λ line heard. heard ≡ heard_of line };
+
+    fn from(line: Line) -> Heard {
         Heard {
             action: line.action,
-            number,
+            number: LineNumber { value: line.number },
         }
     }
 }

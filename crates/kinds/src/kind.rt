@@ -1,5 +1,6 @@
-ghost use Rattle.std.specs.Prelude.{◌≡◌, ℕ, ◌≤◌};
+ghost use Rattle.std.specs.Prelude.{◌≡◌, ℕ};
 ghost use Rattle.kinds.specs.declared.heard.Heard.{Heard};
+ghost use Rattle.kinds.specs.Laws.{LawfulKind};
 
 use crate::heard::Heard;
 
@@ -23,7 +24,5 @@ pub trait Kind {
     fn code(&self, verdict: Self::Verdict) -> u16
         ensures { result ≡ coded self.now verdict };
 
-    ghost small: { (k : Self) (v : Self.Verdict) → coded k v ≤ 4095 };
-
-    ghost apart: { (k : Self) (v w : Self.Verdict) → coded k v ≡ coded k w → v ≡ w };
+    ghost laws: { (k : Self) → LawfulKind (record { of_line = line k; at_end = last k; code = coded k }) };
 }

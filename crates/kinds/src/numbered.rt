@@ -1,55 +1,36 @@
-ghost use Rattle.std.specs.Prelude.{◌≡◌};
+ghost use Rattle.std.specs.Prelude.{◌≡◌, Some, None};
 ghost use Rattle.kinds.specs.Kinds.{numbered_code};
-ghost use Rattle.kinds.specs.declared.numbered.Decided.TheVariants.{End, By};
 ghost use Rattle.kinds.specs.Same.{decided_same};
 ghost use Rattle.std.proofs.Common.{rules};
 
 use crate::heard::Heard;
 use crate::kind::Kind;
-use acl::terms::Action;
 
-// Who decides: a line, or the end of the list.
-#[derive(Clone, Copy, Debug, PartialEq, Eq)]
-pub enum Decided {
-    End,
-    By(Heard),
-}
-
-// The numbered kind tells the line too: 2 × its number, plus 1 for permit; the end is 0.
+// The numbered kind tells the line that decides, or none at the end of the list: 2 × its number,
+// plus 1 for permit; the end is 0.
 #[derive(Clone, Copy, Debug, PartialEq, Eq)]
 pub struct Numbered;
 
 impl Kind for Numbered {
-    type Verdict = Decided;
+    type Verdict = Option<Heard>;
 
-    ghost line = { λ _ x. By x };
+    ghost line = { λ _ x. Some x };
 
-    ghost last = { λ _. End };
+    ghost last = { λ _. None };
 
     ghost coded = { λ _ v. numbered_code v };
 
-    ghost small = { Prim.search rules };
+    ghost laws = { λ _. record { small = Prim.search rules; apart = decided_same } };
 
-    ghost apart = { λ k v w e. decided_same v w e };
-
-    fn of_line(&self, heard: Heard) -> Decided {
-        Decided::By(heard)
+    fn of_line(&self, heard: Heard) -> Option<Heard> {
+        Some(heard)
     }
 
-    fn at_end(&self) -> Decided {
-        Decided::End
+    fn at_end(&self) -> Option<Heard> {
+        None
     }
 
-    fn code(&self, verdict: Decided) -> u16 {
-        match verdict {
-            Decided::End => 0,
-            Decided::By(heard) => {
-                let twice = 2 * heard.number.value;
-                match heard.action {
-                    Action::Deny => twice,
-                    Action::Permit => twice + 1,
-                }
-            }
-        }
+    fn code(&self, verdict: Option<Heard>) -> u16 {
+        verdict.map_or(0, |heard| 2 * heard.number.value + u16::from(heard.action))
     }
 }

@@ -12,10 +12,10 @@ const LINE_64: &[u8] = b"access-list 100 permit tcp any host 100.100.100.100 eq 
 const LINE_65: &[u8] = b"access-list 100 permit tcp any host 100.100.100.100 eq 10000 log\n";
 
 // Whether a text reads, and is written as this canonical text.
-fn writes(rt: &impl Abort, text: &[u8], canonical: &[u8]) -> Result<(), Fail> {
+fn writes(rt: &impl Abort, text: &str, canonical: &str) -> Result<(), Fail> {
     let mut memory = [Line::blank(); 4];
     let mut out = [b'~'; 512];
-    let Ok(Reading { number, count }) = read(text, &mut memory) else {
+    let Ok(Reading { number, count }) = read(text.as_bytes(), &mut memory) else {
         return Err(Fail::new("the text is refused"));
     };
     assert!(rt; count <= 4);
@@ -24,116 +24,114 @@ fn writes(rt: &impl Abort, text: &[u8], canonical: &[u8]) -> Result<(), Fail> {
         Ok(canonical.len())
     );
     assert!(rt; canonical.len() < 512);
-    assert!(rt; &out[0..canonical.len()] == canonical);
+    assert!(rt; &out[0..canonical.len()] == canonical.as_bytes());
     assert_eq!(rt; out[canonical.len()], b'~');
     Ok(())
 }
 
+// Whether each text of the pairs reads, and is written as the canonical text beside it.
+fn all_write(rt: &impl Abort, pairs: &[(&str, &str)]) -> Result<(), Fail> {
+    for (text, canonical) in pairs {
+        writes(rt, text, canonical)?;
+    }
+    Ok(())
+}
+
+const SIDES: [(&str, &str); 6] = [
+    ("access-list 1 permit any", "access-list 1 permit any\n"),
+    (
+        "access-list 99 deny 1.2.3.4 log",
+        "access-list 99 deny host 1.2.3.4 log\n",
+    ),
+    (
+        "access-list 1300 deny 1.2.3.4 0.0.0.0",
+        "access-list 1300 deny host 1.2.3.4\n",
+    ),
+    (
+        "access-list 1999 deny 1.2.3.4 255.255.255.255",
+        "access-list 1999 deny any\n",
+    ),
+    (
+        "access-list 1 deny 255.255.255.255 0.255.0.255",
+        "access-list 1 deny 255.0.255.0 0.255.0.255\n",
+    ),
+    (
+        "access-list 1 deny 0.0.0.0 128.0.0.1",
+        "access-list 1 deny 0.0.0.0 128.0.0.1\n",
+    ),
+];
+
 #[test]
 fn sides(rt: HostRuntime) -> Result<(), Fail> {
-    writes(
-        &rt,
-        b"access-list 1 permit any",
-        b"access-list 1 permit any\n",
-    )?;
-    writes(
-        &rt,
-        b"access-list 99 deny 1.2.3.4 log",
-        b"access-list 99 deny host 1.2.3.4 log\n",
-    )?;
-    writes(
-        &rt,
-        b"access-list 1300 deny 1.2.3.4 0.0.0.0",
-        b"access-list 1300 deny host 1.2.3.4\n",
-    )?;
-    writes(
-        &rt,
-        b"access-list 1999 deny 1.2.3.4 255.255.255.255",
-        b"access-list 1999 deny any\n",
-    )?;
-    writes(
-        &rt,
-        b"access-list 1 deny 255.255.255.255 0.255.0.255",
-        b"access-list 1 deny 255.0.255.0 0.255.0.255\n",
-    )?;
-    writes(
-        &rt,
-        b"access-list 1 deny 0.0.0.0 128.0.0.1",
-        b"access-list 1 deny 0.0.0.0 128.0.0.1\n",
-    )
+    all_write(&rt, &SIDES)
 }
+
+const PROTOCOLS: [(&str, &str); 8] = [
+    (
+        "access-list 100 permit ip any any",
+        "access-list 100 permit ip any any\n",
+    ),
+    (
+        "access-list 100 permit icmp any any log",
+        "access-list 100 permit icmp any any log\n",
+    ),
+    (
+        "access-list 100 permit igmp any any",
+        "access-list 100 permit 2 any any\n",
+    ),
+    (
+        "access-list 199 permit 6 any any",
+        "access-list 199 permit tcp any any\n",
+    ),
+    (
+        "access-list 2000 permit 17 any any",
+        "access-list 2000 permit udp any any\n",
+    ),
+    (
+        "access-list 2699 permit 1 any any",
+        "access-list 2699 permit icmp any any\n",
+    ),
+    (
+        "access-list 2699 permit 0 any any",
+        "access-list 2699 permit 0 any any\n",
+    ),
+    (
+        "access-list 2699 permit 255 any any",
+        "access-list 2699 permit 255 any any\n",
+    ),
+];
 
 #[test]
 fn protocols(rt: HostRuntime) -> Result<(), Fail> {
-    writes(
-        &rt,
-        b"access-list 100 permit ip any any",
-        b"access-list 100 permit ip any any\n",
-    )?;
-    writes(
-        &rt,
-        b"access-list 100 permit icmp any any log",
-        b"access-list 100 permit icmp any any log\n",
-    )?;
-    writes(
-        &rt,
-        b"access-list 100 permit igmp any any",
-        b"access-list 100 permit 2 any any\n",
-    )?;
-    writes(
-        &rt,
-        b"access-list 199 permit 6 any any",
-        b"access-list 199 permit tcp any any\n",
-    )?;
-    writes(
-        &rt,
-        b"access-list 2000 permit 17 any any",
-        b"access-list 2000 permit udp any any\n",
-    )?;
-    writes(
-        &rt,
-        b"access-list 2699 permit 1 any any",
-        b"access-list 2699 permit icmp any any\n",
-    )?;
-    writes(
-        &rt,
-        b"access-list 2699 permit 0 any any",
-        b"access-list 2699 permit 0 any any\n",
-    )?;
-    writes(
-        &rt,
-        b"access-list 2699 permit 255 any any",
-        b"access-list 2699 permit 255 any any\n",
-    )
+    all_write(&rt, &PROTOCOLS)
 }
+
+const PORTS: [(&str, &str); 5] = [
+    (
+        "access-list 100 permit tcp any eq 0 any eq 65535",
+        "access-list 100 permit tcp any eq 0 any eq 65535\n",
+    ),
+    (
+        "access-list 100 permit tcp any neq 9 any neq 10",
+        "access-list 100 permit tcp any neq 9 any neq 10\n",
+    ),
+    (
+        "access-list 100 permit udp any lt 99 any lt 100",
+        "access-list 100 permit udp any lt 99 any lt 100\n",
+    ),
+    (
+        "access-list 100 permit udp any gt 999 any gt 1000",
+        "access-list 100 permit udp any gt 999 any gt 1000\n",
+    ),
+    (
+        "access-list 100 permit tcp any range 1 1 any range 0 65535",
+        "access-list 100 permit tcp any range 1 1 any range 0 65535\n",
+    ),
+];
 
 #[test]
 fn ports(rt: HostRuntime) -> Result<(), Fail> {
-    writes(
-        &rt,
-        b"access-list 100 permit tcp any eq 0 any eq 65535",
-        b"access-list 100 permit tcp any eq 0 any eq 65535\n",
-    )?;
-    writes(
-        &rt,
-        b"access-list 100 permit tcp any neq 9 any neq 10",
-        b"access-list 100 permit tcp any neq 9 any neq 10\n",
-    )?;
-    writes(
-        &rt,
-        b"access-list 100 permit udp any lt 99 any lt 100",
-        b"access-list 100 permit udp any lt 99 any lt 100\n",
-    )?;
-    writes(
-        &rt,
-        b"access-list 100 permit udp any gt 999 any gt 1000",
-        b"access-list 100 permit udp any gt 999 any gt 1000\n",
-    )?;
-    writes(
-        &rt,
-        b"access-list 100 permit tcp any range 1 1 any range 0 65535",
-        b"access-list 100 permit tcp any range 1 1 any range 0 65535\n",
-    )
+    all_write(&rt, &PORTS)
 }
 
 #[test]

@@ -14,8 +14,7 @@ use Rattle.model.specs.Parts.{fixed, Matters, Part, PartOf}
 use Rattle.model.specs.declared.node.Ref.{Ref}
 use Rattle.model.specs.declared.node.Ref.TheVariants.{Code as leaf, Node as node}
 use Rattle.model.specs.Diagram.{Table, top, step, walk, code_at, value, Known, Reduced, part_at, first_from}
-use Rattle.model.specs.declared.ask.Ask.{Ask}
-use Rattle.model.specs.Laying.{meets, in_from, over, Made, skipped, found, Grown}
+use Rattle.model.specs.Laying.{Ask, meets, in_from, over, Made, skipped, found, Grown}
 use Rattle.model.proofs.Images.{map_in, distinct_map}
 use Rattle.model.proofs.Rows.{splice_low, splice_high, put_here, put_else}
 use Rattle.model.proofs.Diagram.{step_at, walk_known, walk_top, value_fixed, value_from, value_on, canon, first_differs}

@@ -1,18 +1,20 @@
 -- Laying a piece over a reference, place by place. Assumes nothing.
-use Rattle.std.specs.Prelude.{◌≡◌, Bool, true, cond, ◌&&◌, ℕ, zero, suc}
+use Rattle.std.specs.Prelude.{◌≡◌, Bool, true, cond, ◌&&◌, ℕ, zero, suc, Some, None, Option}
 use Rattle.std.specs.Bool.{beq}
-use Rattle.model.specs.declared.ask.Ask.{Ask}
-use Rattle.model.specs.declared.ask.Ask.TheVariants.{Ignored, Wanted}
 use Rattle.model.specs.Rows.{Bits}
 use Rattle.model.specs.Stages.{Stage}
 use Rattle.model.specs.declared.node.Ref.{Ref}
 use Rattle.model.specs.declared.node.Ref.TheVariants.{Node as node}
 use Rattle.model.specs.Diagram.{Table}
 
+-- what a piece asks of the bit at a place: that it is this one, or nothing
+abbrev pub Ask : Type 0
+Ask = Option Bool
+
 -- the bit is one that is asked for
 abbrev pub meets : Ask → Bool → Bool
-meets Ignored b = true
-meets (Wanted c) b = beq c b
+meets None b = true
+meets (Some c) b = beq c b
 
 -- the row has what the piece asks at the d places from p on
 abbrev pub in_from : (ℕ → Ask) → ℕ → ℕ → Bits → Bool

@@ -1,12 +1,8 @@
 -- Which of two rows of bits comes first. Assumes nothing.
-use Rattle.std.proofs.Common.{◌≡◌, ℕ, ◌<◌, Bool, true, false, cond, not, sym, refl, ap, ◌∙◌, arith}
-use mathlib.Core.Bool.{beq, false≢true}
+use Rattle.std.proofs.Common.{◌≡◌, ℕ, ◌<◌, Bool, true, false, cond, not, sym, ap, ◌∙◌, arith}
+use mathlib.Core.Bool.{false≢true}
 use native.Mathlib.Decide.{dec_lt}
 use Rattle.model.specs.Rows.{Bits, AgreeBelow, First}
-
--- rows that agree are not before one another
-pub none_before : {w : ℕ} (u v : Bits) → AgreeBelow w u v → First w u v → ⊥
-none_before u v same f = false≢true (sym f.zero_here ∙ same f.place f.within ∙ f.one_there)
 
 -- where two rows agree below p and differ at p, the bits there decide
 pub differ_here : (w : ℕ) (u v : Bits) (p : ℕ) → p < w → AgreeBelow p u v → (b : Bool) → u p ≡ b → v p ≡ not b
@@ -18,16 +14,3 @@ differ_here w u v p l same true e f = λ first. go first (dec_lt first.place p) 
     go first (yes h) m = false≢true (sym first.zero_here ∙ same first.place h ∙ first.one_there)
     go first (no n) (yes m) = false≢true (sym (sym e ∙ first.same p m ∙ f))
     go first (no n) (no m) = let at : first.place ≡ p = omega arith in false≢true (sym (sym e ∙ ap u (sym at) ∙ first.zero_here))
-
--- what a test of two bits tells
-pub agree_bits : (a b : Bool) → not (beq a b) ≡ false → a ≡ b
-agree_bits true true e = refl
-agree_bits true false e = absurd (false≢true (sym e))
-agree_bits false true e = absurd (false≢true (sym e))
-agree_bits false false e = refl
-
-pub apart_bits : (a b : Bool) → not (beq a b) ≡ true → b ≡ not a
-apart_bits true true e = absurd (false≢true e)
-apart_bits true false e = refl
-apart_bits false true e = refl
-apart_bits false false e = absurd (false≢true e)

@@ -1,4 +1,5 @@
 pub mod Befores
+pub mod Calls
 pub mod Inverse
 pub mod Onto
 pub mod Once

@@ -1,9 +1,13 @@
 -- The two ways to say that a list holds each number once. Assumes nothing.
-use Rattle.std.proofs.Common.{◌≡◌, ℕ, ◌<◌, List, get_or, sym, refl, ap, ◌∙◌}
+use Rattle.std.proofs.Common.{◌≡◌, ℕ, zero, suc, ◌+◌, ◌<◌, ◌≤◌, true, eqb, List, length, get_or, sym, refl, ap, ◌∙◌, add-one, arith}
 use native.Mathlib.Decide.{dec_lt}
+use Rattle.std.specs.List.{list_any, remove}
+use Rattle.std.proofs.lemmas.Bool.{eq-eqb}
+use Rattle.std.proofs.lemmas.List.Edits.{length-remove, get_or-remove_below, get_or-remove_above}
+use Rattle.std.proofs.lemmas.List.Folds.{list_any_at}
+use Rattle.std.proofs.lemmas.Map.Steps.{le-length_from_below}
 use Rattle.acl.specs.Headers.{width}
 use Rattle.orders.specs.Perms.{HoldsOnce, EachOnce}
-use Rattle.orders.proofs.Onto.{onto}
 
 pub shortly : (xs : List ℕ) → EachOnce xs → HoldsOnce xs
 shortly xs e = record {
@@ -12,25 +16,36 @@ shortly xs e = record {
 }
 
 module _ (xs : List ℕ) (t : HoldsOnce xs) where
-  abbrev place : (b : ℕ) → Dec (b < width) → ℕ
-  place b (yes h) = (t.once b h).0
-  place b (no n) = 0
+  -- without a number from 104 on, the list has each number below 104 still
+  stays : (p : ℕ) → p < width → width ≤ get_or xs p 0 → (b k : ℕ) → b < width → k < width → get_or xs k 0 ≡ b → list_any (eqb b) (remove xs p) ≡ true
+  stays p h high b k l m e = go k m e (dec_lt k p) (dec_lt p k)
+    where
+      shorter : length (remove xs p) + 1 ≡ width
+      shorter = length-remove xs p (omega (arith, t.long)) ∙ t.long
 
-  place_in : (b : ℕ) → b < width → (d : Dec (b < width)) → (place b d < width) × (get_or xs (place b d) 0 ≡ b)
-  place_in b l (yes h) = ((t.once b h).1.0, (t.once b h).1.1)
-  place_in b l (no n) = absurd (n l)
+      at : (i : ℕ) → i + 1 < width → get_or (remove xs p) i 0 ≡ b → list_any (eqb b) (remove xs p) ≡ true
+      at i m e = list_any_at (eqb b) (remove xs p) i 0 (omega (arith, shorter)) (eq-eqb b (get_or (remove xs p) i 0) (sym e))
 
-  abbrev at : ℕ → ℕ
-  at b = place b (dec_lt b width)
-
-  met : (p : ℕ) → p < width → (b : ℕ) × ((b < width) × (at b ≡ p))
-  met = onto width at (λ b l. (place_in b l (dec_lt b width)).0) (λ a b k l e. sym (place_in a k (dec_lt a width)).1 ∙ ap (λ (n : ℕ). get_or xs n 0) e ∙ (place_in b l (dec_lt b width)).1)
+      go : (k : ℕ) → k < width → get_or xs k 0 ≡ b → Dec (k < p) → Dec (p < k) → list_any (eqb b) (remove xs p) ≡ true
+      go k m e (yes y) d = at k (omega arith) (get_or-remove_below xs p 0 k y (omega (arith, t.long)) ∙ e)
+      go zero m e (no n) (yes y) = absurd (omega arith)
+      go (suc k) m e (no n) (yes y) =
+          let after : get_or xs (k + 1) 0 ≡ b = rw add-one e in
+          at k (omega arith) (get_or-remove_above xs p 0 k (omega arith) (omega (arith, t.long)) ∙ after)
+      go k m e (no n) (no y) = let z : k ≡ p = omega arith in absurd (omega (arith, ap (λ (i : ℕ). get_or xs i 0) z))
 
   low : (p : ℕ) → p < width → get_or xs p 0 < width
-  low p h =
-      let m = met p h in
-      let e : get_or xs p 0 ≡ m.0 = ap (λ (n : ℕ). get_or xs n 0) (sym m.1.1) ∙ (place_in m.0 m.1.0 (dec_lt m.0 width)).1 in
-      rw e m.1.0
+  low p h = go (dec_lt (get_or xs p 0) width)
+    where
+      go : Dec (get_or xs p 0 < width) → get_or xs p 0 < width
+      go (yes l) = l
+      go (no n) =
+          absurd (omega (
+            arith,
+            length-remove xs p (omega (arith, t.long)),
+            t.long,
+            le-length_from_below (remove xs p) width (λ b l. let s = t.once b l in stays p h (omega arith) b s.0 l s.1.0 s.1.1),
+          ))
 
   pub at_length : EachOnce xs
   at_length = record {

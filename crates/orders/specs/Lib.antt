@@ -1,3 +1,4 @@
 pub mod Fixed
 pub mod Perms
+pub mod Laws
 pub mod Meanings

@@ -1,23 +1,9 @@
 -- What an order of a header's bits means, and which header is before another. Assumes nothing.
-use Rattle.std.specs.Prelude.{◌≡◌, ℕ, ◌<◌, ◌≤◌}
 use Rattle.acl.specs.declared.header.Header.{Header}
 use Rattle.acl.specs.Headers.{header_bit, header_of, width}
 use Rattle.model.specs.Rows.{Bits, First}
+pub use Rattle.orders.specs.Laws.{OrderMeaning, LawfulOrder}
 use Rattle.orders.specs.declared.order.Order as order
-
--- an order's meaning: the bit at a place, and the place of a bit
-pub record OrderMeaning : Type 0 where
-  pub bit_at : ℕ → ℕ
-  pub place_of : ℕ → ℕ
-
--- its laws over w places: below w both answer below w and each undoes the other, and from w on both answer w
-pub record LawfulOrder (w : ℕ) (o : OrderMeaning) : Type 0 where
-  pub bit_within : (p : ℕ) → p < w → o.bit_at p < w
-  pub place_within : (b : ℕ) → b < w → o.place_of b < w
-  pub place_of_bit : (p : ℕ) → p < w → o.place_of (o.bit_at p) ≡ p
-  pub bit_of_place : (b : ℕ) → b < w → o.bit_at (o.place_of b) ≡ b
-  pub bit_past : (p : ℕ) → w ≤ p → o.bit_at p ≡ w
-  pub place_past : (b : ℕ) → w ≤ b → o.place_of b ≡ w
 
 -- the meaning of an order of the code
 abbrev pub order_of : {O : Type 0} → order.Ghosts O → O → OrderMeaning

@@ -15,17 +15,7 @@ impl Order for Plain {
 
     ghost places = { λ _. straight };
 
-    ghost bit_within = { Prim.search rules };
-
-    ghost place_within = { Prim.search rules };
-
-    ghost place_of_bit = { Prim.search rules };
-
-    ghost bit_of_place = { Prim.search rules };
-
-    ghost bit_past = { Prim.search rules };
-
-    ghost place_past = { Prim.search rules };
+    ghost laws = { Prim.search rules };
 
     fn bit_at(&self, place: usize) -> usize {
         place.min(WIDTH)
@@ -46,17 +36,7 @@ impl Order for Woven {
 
     ghost places = { λ _. woven_place };
 
-    ghost bit_within = { Prim.search rules };
-
-    ghost place_within = { Prim.search rules };
-
-    ghost place_of_bit = { Prim.search rules };
-
-    ghost bit_of_place = { Prim.search rules };
-
-    ghost bit_past = { Prim.search rules };
-
-    ghost place_past = { Prim.search rules };
+    ghost laws = { Prim.search rules };
 
     fn bit_at(&self, place: usize) -> usize {
         match place {

@@ -1,6 +1,5 @@
 -- The blocks of a port test hold the ports that it fits, and the pieces of a line the headers that it fits. Assumes nothing.
 use Rattle.std.proofs.Common.{◌≡◌, ℕ, ◌+◌, ◌*◌, ◌<◌, Bool, true, false, cond, not, ◌&&◌, eqb, ltb, leb, List, [], ◌∷◌, ◌++◌, map, sym, refl, ap, ◌∙◌, add_assoc, add-mul, zero-add, mul-add, arith}
-use mathlib.Core.Bool.{false≢true}
 use Rattle.std.proofs.lemmas.Bool.Decides.{nat_tests}
 use Rattle.acl.specs.Bits.{alike}
 use Rattle.acl.specs.Headers.{worth}
@@ -72,10 +71,9 @@ blocks_rising (Lt m) = from_zero 0 m
 blocks_rising (Gt m) = from_zero (m + 1) 65536
 blocks_rising (Range a b) = from_zero a (b + 1)
 
--- the second of two tests that both pass
-second : (x y : Bool) → cond x y false ≡ true → y ≡ true
-second true y e = e
-second false y e = absurd (false≢true e)
+-- the upper end of a narrow range
+upper : (a b : ℕ) → cond (ltb a 65536) (ltb b 65536) false ≡ true → b < 65536
+upper a b e = grind (arith, nat_tests)
 
 -- each range is cut into largest blocks
 pub blocks_cut : (t : PortTest) → ports_narrow t ≡ true → TestCut t (blocks t)
@@ -86,7 +84,7 @@ blocks_cut (Neq m) e =
     (between 0 m, between (m + 1) 65536, refl, cut_into 0 m (omega (arith, ltb-true m 65536 e)), cut_into (m + 1) 65536 (omega arith))
 blocks_cut (Lt m) e = cut_into 0 m (omega (arith, ltb-true m 65536 e))
 blocks_cut (Gt m) e = cut_into (m + 1) 65536 (omega arith)
-blocks_cut (Range a b) e = cut_into a (b + 1) (omega (arith, ltb-true b 65536 (second (ltb a 65536) (ltb b 65536) e)))
+blocks_cut (Range a b) e = cut_into a (b + 1) (omega (arith, upper a b e))
 
 -- the blocks of a test are as they should be
 pub blocks_stand : (t : PortTest) → BlocksStand t

@@ -1,7 +1,8 @@
 -- A range of ports is cut from the low end into the largest blocks. Assumes nothing.
-use Rattle.std.proofs.Common.{◌≡◌, ℕ, zero, suc, ◌+◌, ◌-◌, ◌%◌, ◌^◌, ◌<◌, ◌≤◌, Bool, true, false, cond, ◌&&◌, eqb, ltb, leb, ◌⊎◌, List, [], ◌∷◌, ◌++◌, sym, refl, ap, ◌∙◌, inl, inr, append-nil, arith, pow_pos, pow_mono}
+use Rattle.std.proofs.Common.{◌≡◌, ℕ, zero, suc, ◌+◌, ◌-◌, ◌%◌, ◌^◌, ◌<◌, ◌≤◌, Bool, true, false, cond, ◌&&◌, eqb, ltb, leb, ◌⊎◌, List, [], ◌∷◌, ◌++◌, length, sym, refl, ap, ◌∙◌, inl, inr, append-nil, arith, pow_pos, pow_mono}
 use native.Mathlib.Nat.{mod-one}
-use Rattle.std.proofs.lemmas.Bool.{ltb-true, ltb-false, leb-true, eqb-true, lt-ltb, le-ltb, le-leb, lt-leb, eq-eqb, cases_lt, and_parts, both_ways}
+use Rattle.std.proofs.lemmas.Bool.{ltb-true, ltb-false, leb-true, eqb-true, lt-ltb, le-ltb, le-leb, eq-eqb, cases_lt, and_parts, both_ways}
+use Rattle.std.proofs.lemmas.Bool.Decides.{nat_tests}
 use Rattle.acl.specs.Headers.{worth}
 use Rattle.pieces.specs.Blocks.{BlockShape, goes, largest, block_from, cut, between, holding, RisingFrom, Largest, CutInto, done, more}
 
@@ -120,6 +121,10 @@ module _ (c : ℕ) (P : ℕ → List BlockShape → Type 0) (none : (a : ℕ) �
   unfolding between
   by_blocks a = by_cut (c - a) a (omega arith)
 
+-- a range has no more blocks than ports
+pub length_between : (a c : ℕ) → length (between a c) ≤ c - a
+length_between a c = by_blocks c (λ k bs. length bs ≤ c - k) (λ k l. omega arith) (λ k l m bs r. omega (arith, pow_pos (largest 16 k c))) a
+
 -- each block is the largest
 pub cut_into : (a c : ℕ) → c ≤ 65536 → CutInto a c (between a c)
 cut_into a c h = by_blocks c (λ k bs. CutInto k c bs) (λ k l. done l) (λ k l m bs r. more l (is_largest k c l h) r) a
@@ -128,39 +133,13 @@ cut_into a c h = by_blocks c (λ k bs. CutInto k c bs) (λ k l. done l) (λ k l 
 abbrev pub in_range : ℕ → ℕ → ℕ → Bool
 in_range a c n = leb a n && ltb n c
 
--- a port of a range
-range_inside : (a c n : ℕ) → a ≤ n → n < c → in_range a c n ≡ true
-range_inside a c n h k = rw (le-leb a n h, lt-ltb n c k)
-
--- a port below a range
-range_below : (a c n : ℕ) → n < a → in_range a c n ≡ false
-range_below a c n h = rw (lt-leb a n h)
-
--- a port above a range
-range_above : (a c n : ℕ) → c ≤ n → in_range a c n ≡ false
-range_above a c n h = go (leb a n)
-  where
-    go : (b : Bool) → (b && ltb n c) ≡ false
-    go true = le-ltb n c h
-    go false = refl
-
 -- no port is in an empty range
-pub range_empty : (a c n : ℕ) → c ≤ a → in_range a c n ≡ false
-range_empty a c n h = go (cases_lt n a)
-  where
-    go : (n < a) ⊎ (a ≤ n) → in_range a c n ≡ false
-    go (inl l) = range_below a c n l
-    go (inr l) = range_above a c n (omega arith)
+range_empty : (a c n : ℕ) → c ≤ a → in_range a c n ≡ false
+range_empty a c n h = grind (arith, nat_tests)
 
 -- two ranges that meet make one
-pub range_join : (a b c n : ℕ) → a ≤ b → b ≤ c → worth (in_range a b n) + worth (in_range b c n) ≡ worth (in_range a c n)
-range_join a b c n h k = go (cases_lt n a) (cases_lt n b) (cases_lt n c)
-  where
-    go : (n < a) ⊎ (a ≤ n) → (n < b) ⊎ (b ≤ n) → (n < c) ⊎ (c ≤ n) → worth (in_range a b n) + worth (in_range b c n) ≡ worth (in_range a c n)
-    go (inl x) y z = rw (range_below a b n x, range_below b c n (omega arith), range_below a c n x)
-    go (inr x) (inl y) z = rw (range_inside a b n x y, range_below b c n y, range_inside a c n x (omega arith))
-    go (inr x) (inr y) (inl z) = rw (range_above a b n y, range_inside b c n y z, range_inside a c n x z)
-    go (inr x) (inr y) (inr z) = rw (range_above a b n y, range_above b c n z, range_above a c n z)
+range_join : (a b c n : ℕ) → a ≤ b → b ≤ c → worth (in_range a b n) + worth (in_range b c n) ≡ worth (in_range a c n)
+range_join a b c n h k = grind (arith, nat_tests)
 
 -- each port of a range is in one of its blocks, and any other in none
 pub holding_between : (a c n : ℕ) → holding (between a c) n ≡ worth (leb a n && ltb n c)

@@ -1,18 +1,18 @@
 -- The fields of a header, bit by bit. Assumes nothing.
-use Rattle.std.proofs.Common.{◌≡◌, ℕ, zero, suc, ◌+◌, ◌-◌, ◌*◌, ◌/◌, ◌%◌, ◌^◌, ◌<◌, ◌≤◌, Bool, true, false, cond, ◌&&◌, eqb, ltb, leb, sym, refl, ap, ◌∙◌, mod-lt, pow-suc, arith, pow_pos, pow_mono, shr-shr, shr_lt}
+use Rattle.std.proofs.Common.{◌≡◌, ℕ, ◌+◌, ◌-◌, ◌*◌, ◌/◌, ◌%◌, ◌^◌, ◌<◌, ◌≤◌, Bool, true, false, cond, ◌&&◌, eqb, ltb, leb, sym, refl, ap, ◌∙◌, mod-lt, arith, pow_pos, shr-shr, shr_lt}
 use mathlib.Core.Bool.{beq}
-use native.Mathlib.Nat.{div-eq_of_lt}
 use native.Mathlib.Decide.{dec_lt}
-use lib.Pow.{ones_lt, ones_split, split, high}
+use lib.Pow.{split, high}
 use Rattle.std.proofs.lemmas.Bool.{lt-ltb, le-leb, eq-eqb, ltb-true, leb-true, eqb-true, and_parts, and_from}
-use Rattle.std.proofs.lemmas.Bool.Decides.{same_from_decides}
+use Rattle.std.proofs.lemmas.Bool.Decides.{same_from_decides, nat_tests}
+use Rattle.std.proofs.lemmas.Nat.Bits.{same_from_bits_below, bit_at-zero, bit_at_ones, bit_at_ones_above}
 use Rattle.acl.specs.Bits.{bit, alike}
 use Rattle.acl.specs.Headers.{low_bit, header_bit}
 use Rattle.acl.specs.Terms.{protocol_fits, protocol_narrow}
 use Rattle.acl.specs.declared.header.Header.{Header}
 use Rattle.acl.specs.declared.terms.Protocol.{Protocol}
 use Rattle.acl.specs.declared.terms.Protocol.TheVariants.{Any, Number}
-use Rattle.acl.proofs.Masks.{bit_half, bit_low, below_each, each_below, alike_bits, bits_alike}
+use Rattle.acl.proofs.Masks.{below_each, each_below, alike_bits, bits_alike}
 use Rattle.model.specs.Laying.{meets}
 use Rattle.pieces.specs.Asks.{wanted_protocol, ignored_protocol, ask_for}
 
@@ -22,13 +22,7 @@ same_bool a b f g = same_from_decides a b (f, g) (λ e. e, λ e. e)
 
 -- two bits, each 0 or 1, are the same exactly when both or neither is 1
 beq_eqb : (n x : ℕ) → n < 2 → x < 2 → beq (eqb n 1) (eqb x 1) ≡ eqb x n
-beq_eqb zero zero a b = refl
-beq_eqb zero (suc zero) a b = refl
-beq_eqb zero (suc (suc x)) a b = absurd (omega arith)
-beq_eqb (suc zero) zero a b = refl
-beq_eqb (suc zero) (suc zero) a b = refl
-beq_eqb (suc zero) (suc (suc x)) a b = absurd (omega arith)
-beq_eqb (suc (suc n)) x a b = absurd (omega arith)
+beq_eqb n x a b = grind (arith, nat_tests)
 
 -- a bit is as it is asked for exactly when it is ignored or the same
 meets_bit : (j g n x : ℕ) → meets (ask_for (low_bit j g) (low_bit j n)) (low_bit j x) ≡ cond (eqb (bit j g) 1) true (eqb (bit j x) (bit j n))
@@ -61,15 +55,6 @@ module _ (f : Header → ℕ) (s k : ℕ) (at : (h : Header) (b : ℕ) → s ≤
           ap (λ i. cond (eqb (bit i (f g)) 1) true (eqb (bit i (f h)) (bit i (f n)))) (sym e)
           ∙ sym (at_bit b (omega arith) (omega arith)) ∙ all b (omega arith) (omega arith)
 
--- numbers of k bits with the same bits are equal
-pub same_bits : (k x y : ℕ) → x < 2 ^ k → y < 2 ^ k → ((j : ℕ) → j < k → bit j x ≡ bit j y) → x ≡ y
-same_bits zero x y a b e = omega arith
-same_bits (suc k) x y a b e =
-    let double = pow-suc 2 k in
-    let half : x / 2 ≡ y / 2 = same_bits k (x / 2) (y / 2) (omega arith) (omega arith) (λ j l. sym (bit_half j x) ∙ e (suc j) (omega arith) ∙ bit_half j y) in
-    let low : x % 2 ≡ y % 2 = sym (bit_low x) ∙ e 0 (omega arith) ∙ bit_low y in
-    omega arith
-
 -- a protocol fits exactly when its bits are as they are asked for
 pub protocol_alike : (t : Protocol) → protocol_narrow t ≡ true → (x : ℕ) → x < 2 ^ 8 → protocol_fits t x ≡ alike 8 (ignored_protocol t) x (wanted_protocol t)
 protocol_alike Any low x l = refl
@@ -78,27 +63,8 @@ protocol_alike (Number n) low x l = same_bool (eqb x n) (alike 8 0 x n) there ba
     there : eqb x n ≡ true → alike 8 0 x n ≡ true
     there e = bits_alike 8 x n 0 (λ j k z. ap (bit j) (eqb-true x n e))
 
-    none : (j : ℕ) → bit j 0 ≡ 0
-    none j = ap (λ d. d % 2) (div-eq_of_lt (pow_pos j))
-
     back : alike 8 0 x n ≡ true → eqb x n ≡ true
-    back e = eq-eqb x n (same_bits 8 x n l (ltb-true n 256 low) (λ j k. alike_bits 8 x n 0 e j k (none j)))
-
--- all bits of 2 ^ e - 1 below e are 1
-ones_below : (e j : ℕ) → j < e → bit j (2 ^ e - 1) ≡ 1
-ones_below e j l =
-    let d : ℕ = e - j - 1 in
-    let apart : e ≡ suc d + j = omega arith in
-    let double = pow-suc 2 d in
-    let some = pow_pos d in
-    ap (λ m. bit j (2 ^ m - 1)) apart
-    ∙ ap (bit j) (ones_split (suc d) j)
-    ∙ ap (λ q. q % 2) (high (2 ^ suc d - 1) j (ones_lt j))
-    ∙ omega arith
-
--- and those from e on are 0
-ones_above : (e j : ℕ) → e ≤ j → bit j (2 ^ e - 1) ≡ 0
-ones_above e j l = let more = pow_mono l in let some = pow_pos e in ap (λ q. q % 2) (div-eq_of_lt (omega arith))
+    back e = eq-eqb x n (same_from_bits_below 8 x n l (ltb-true n 256 low) (λ j k. alike_bits 8 x n 0 e j k (bit_at-zero j)))
 
 -- a bit from e on is one of what is left after e bits
 bit_above : (e j n : ℕ) → bit j (n / 2 ^ e) ≡ bit (e + j) n
@@ -107,8 +73,8 @@ bit_above e j n = ap (λ q. q % 2) (shr-shr n e j)
 -- where numbers of k bits are alike but for the last e bits, the others make the same number
 but_last : (k e x y : ℕ) → e ≤ k → x < 2 ^ k → y < 2 ^ k → alike k (2 ^ e - 1) x y ≡ true → x / 2 ^ e ≡ y / 2 ^ e
 but_last k e x y le a b h =
-    same_bits (k - e) (x / 2 ^ e) (y / 2 ^ e) (shr_lt (k - e) e (rw whole a)) (shr_lt (k - e) e (rw whole b))
-    (λ j l. bit_above e j x ∙ alike_bits k x y (2 ^ e - 1) h (e + j) (omega arith) (ones_above e (e + j) (omega arith)) ∙ sym (bit_above e j y))
+    same_from_bits_below (k - e) (x / 2 ^ e) (y / 2 ^ e) (shr_lt (k - e) e (rw whole a)) (shr_lt (k - e) e (rw whole b))
+    (λ j l. bit_above e j x ∙ alike_bits k x y (2 ^ e - 1) h (e + j) (omega arith) (bit_at_ones_above e (e + j) (omega arith)) ∙ sym (bit_above e j y))
   where
     whole : k - e + e ≡ k
     whole = omega arith
@@ -118,7 +84,7 @@ last_but : (k e x y : ℕ) → x / 2 ^ e ≡ y / 2 ^ e → alike k (2 ^ e - 1) x
 last_but k e x y h = bits_alike k x y (2 ^ e - 1) (λ j l z. go j z (dec_lt j e))
   where
     go : (j : ℕ) → bit j (2 ^ e - 1) ≡ 0 → Dec (j < e) → bit j x ≡ bit j y
-    go j z (yes l) = absurd (omega (arith, ones_below e j l))
+    go j z (yes l) = absurd (omega (arith, bit_at_ones e j l))
     go j z (no n) =
         let apart : j ≡ e + (j - e) = omega arith in
         ap (λ i. bit i x) apart ∙ sym (bit_above e (j - e) x) ∙ ap (bit (j - e)) h ∙ bit_above e (j - e) y ∙ ap (λ i. bit i y) (sym apart)

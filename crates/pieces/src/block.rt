@@ -12,14 +12,18 @@ pub struct Block {
     ghost inside: { start + 2 ^ exponent ≤ 65536 },
 }
 
-// The blocks of a port test, one after another: those of the ports from `at` up to, and
-// without, `end`, and then of those from `next` up to `last`.
+// The ports from `at` up to, and without, `end`.
 #[derive(Clone, Copy)]
-pub struct Blocks {
+struct Ports {
     at: u32,
     end: u32,
-    next: u32,
-    last: u32,
-    ghost end_inside: { end ≤ 65536 },
-    ghost last_inside: { last ≤ 65536 },
+    ghost inside: { end ≤ 65536 },
+}
+
+// The blocks of a port test, one after another: those of a first range of ports, and then of a
+// second one.
+#[derive(Clone, Copy)]
+pub struct Blocks {
+    first: Ports,
+    second: Ports,
 }

@@ -1,9 +1,9 @@
 -- The line that is found decides. Assumes nothing.
-use Rattle.std.proofs.Common.{◌≡◌, ℕ, Bool, true, false, cond, List, [], ◌∷◌, map, Some, None, refl, ap, arith}
+use Rattle.std.proofs.Common.{◌≡◌, Bool, true, false, cond, List, [], ◌∷◌, map, Some, None, Option, MatchOption, ap, ◌∙◌}
 use Rattle.acl.specs.declared.header.Header.{Header}
 use Rattle.acl.specs.declared.line.Line.{Line}
 use Rattle.acl.specs.Shapes.{shape}
-use Rattle.acl.specs.Fits.{line_fits, first_match}
+use Rattle.acl.specs.Fits.{line_fits, first_match, found_shape}
 use Rattle.model.specs.Rulings.{verdict}
 use Rattle.kinds.specs.Kinds.{KindMeaning, heard_of}
 use Rattle.kinds.specs.Same.{heard_same}
@@ -14,23 +14,17 @@ heard_alike : (x y : Line) → shape x ≡ shape y → heard_of x ≡ heard_of y
 heard_alike x y e = heard_same (heard_of x) (heard_of y) (ap (λ s. s.action) e) (ap (λ s. s.number) e)
 
 module _ {V : Type 0} (k : KindMeaning V) where
-  -- where no line fits, the end decides
-  pub none_found : (xs : List Line) (h : Header) → None ≡ first_match (map shape xs) h → k.at_end ≡ verdict (ruling k) xs h
-  none_found [] h e = refl
-  none_found (x ∷ xs) h e = go (line_fits (shape x) h) e (none_found xs h)
+  -- the line that is found decides, or the end where none is
+  pub found_decides : (xs : List Line) (h : Header) (o : Option Line) (v : V) → found_shape o ≡ first_match (map shape xs) h
+      → MatchOption o (v ≡ k.at_end) (λ l. v ≡ k.of_line (heard_of l)) → v ≡ verdict (ruling k) xs h
+  found_decides [] h None v e d = d
+  found_decides [] h (Some l) v e d = absurd (cc)
+  found_decides (x ∷ xs) h o v e d = go (line_fits (shape x) h) o e d (found_decides xs h o v)
     where
-      go : (b : Bool) → None ≡ cond b (Some (shape x)) (first_match (map shape xs) h)
-          → (None ≡ first_match (map shape xs) h → k.at_end ≡ verdict (ruling k) xs h) → k.at_end ≡ cond b (k.of_line (heard_of x)) (verdict (ruling k) xs h)
-      go true f ih = let z : ◌≡◌ {A = ℕ} 0 1 = cc in absurd (omega arith)
-      go false f ih = ih f
-
-  -- where a line is found, it decides
-  pub line_found : (xs : List Line) (h : Header) (l : Line) → Some (shape l) ≡ first_match (map shape xs) h → k.of_line (heard_of l) ≡ verdict (ruling k) xs h
-  line_found [] h l e = let z : ◌≡◌ {A = ℕ} 0 1 = cc in absurd (omega arith)
-  line_found (x ∷ xs) h l e = go (line_fits (shape x) h) e (line_found xs h l)
-    where
-      go : (b : Bool) → Some (shape l) ≡ cond b (Some (shape x)) (first_match (map shape xs) h)
-          → (Some (shape l) ≡ first_match (map shape xs) h → k.of_line (heard_of l) ≡ verdict (ruling k) xs h)
-          → k.of_line (heard_of l) ≡ cond b (k.of_line (heard_of x)) (verdict (ruling k) xs h)
-      go true f ih = let s : shape l ≡ shape x = cc in ap k.of_line (heard_alike l x s)
-      go false f ih = ih f
+      go : (b : Bool) (o : Option Line) → found_shape o ≡ cond b (Some (shape x)) (first_match (map shape xs) h)
+          → MatchOption o (v ≡ k.at_end) (λ l. v ≡ k.of_line (heard_of l))
+          → (found_shape o ≡ first_match (map shape xs) h → MatchOption o (v ≡ k.at_end) (λ l. v ≡ k.of_line (heard_of l)) → v ≡ verdict (ruling k) xs h)
+          → v ≡ cond b (k.of_line (heard_of x)) (verdict (ruling k) xs h)
+      go true None e d ih = absurd (cc)
+      go true (Some l) e d ih = let s : shape l ≡ shape x = cc in d ∙ ap k.of_line (heard_alike l x s)
+      go false o e d ih = ih e d

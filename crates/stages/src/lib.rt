@@ -15,16 +15,6 @@ use acl::line::Line;
 use kinds::heard::Heard;
 use kinds::kind::Kind;
 
-// The code of the first line that fits, or of the end.
-fn code_of<K: Kind>(kind: &K, lines: &[Line], header: Header) -> u16
-    ensures { result ≡ (kind_of K.Kind kind.now).code (verdict (ruling (kind_of K.Kind kind.now)) lines.now header) }
-{
-    match first_match(lines, header) {
-        None => kind.code(kind.at_end()),
-        Some(line) => kind.code(kind.of_line(Heard::of(line))),
-    }
-}
-
 // The code of a list's verdict for a header: that of the first line that fits, or else that of
 // the end. The number of lines has no limit here.
 pub fn verdict_code<K: Kind>(kind: &K, lines: &[Line], header: Header) -> u16
@@ -34,5 +24,7 @@ pub fn verdict_code<K: Kind>(kind: &K, lines: &[Line], header: Header) -> u16
     ensures fits { FitsStand (kind_of K.Kind kind.now) }
     ensures pruning { PruningStands (ruling (kind_of K.Kind kind.now)) }
 {
-    code_of(kind, lines, header)
+    let found = first_match(lines, header);
+    let verdict = found.map_or(kind.at_end(), |line| kind.of_line(Heard::from(line)));
+    kind.code(verdict)
 }

@@ -9,13 +9,13 @@ use pieces::piece::Pieces;
 use std::test::Fail;
 
 // The line of a text as one piece that permits; a text that is refused gives the blank line's.
-fn piece(text: &[u8]) -> Option<Cube> {
+fn piece(text: &[u8]) -> Result<Cube, Fail> {
     let mut memory = [Line::blank(); 1];
     let _ = read(text, &mut memory);
-    match Pieces::of(memory[0]).next() {
-        None => None,
-        Some(piece) => Some(Cube::new(piece.asks(&Plain), 1)),
-    }
+    let piece = Pieces::of(memory[0])
+        .next()
+        .ok_or_else(|| Fail::new("a piece is missing"))?;
+    Ok(Cube::new(piece.asks(&Plain), 1))
 }
 
 const TEN: &[u8] = b"access-list 10 permit 10.0.0.0 0.255.255.255";
@@ -23,45 +23,37 @@ const TEN: &[u8] = b"access-list 10 permit 10.0.0.0 0.255.255.255";
 const WHOLE: &[u8] = b"access-list 100 permit tcp host 1.2.3.4 eq 5 host 6.7.8.9 eq 10";
 
 // What laying the piece over deny answers in a table of this room, and the nodes there are then.
-fn laid(room: usize, text: &[u8]) -> (Result<Ref, Denied>, usize) {
+fn laid(room: usize, text: &[u8]) -> Result<(Result<Ref, Denied>, usize), Fail> {
+    let cube = piece(text)?;
     let mut table = Table::new(room);
-    match piece(text) {
-        None => (Err(Denied::NoNode), 0),
-        Some(cube) => {
-            let answer = table.lay(&cube, Ref::Code(0));
-            (answer, table.count())
-        }
-    }
+    let answer = table.lay(&cube, Ref::Code(0));
+    Ok((answer, table.count()))
 }
 
 #[test]
-fn room_just_suffices(rt: HostRuntime) {
-    assert_eq!(rt; laid(8, TEN), (Ok(Ref::Node(7)), 8));
-    assert_eq!(rt; laid(7, TEN), (Err(Denied::Full), 0));
-    assert_eq!(rt; laid(104, WHOLE), (Ok(Ref::Node(103)), 104));
-    assert_eq!(rt; laid(103, WHOLE), (Err(Denied::Full), 0));
+fn room_just_suffices(rt: HostRuntime) -> Result<(), Fail> {
+    assert_eq!(rt; laid(8, TEN)?, (Ok(Ref::Node(7)), 8));
+    assert_eq!(rt; laid(7, TEN)?, (Err(Denied::Full), 0));
+    assert_eq!(rt; laid(104, WHOLE)?, (Ok(Ref::Node(103)), 104));
+    assert_eq!(rt; laid(103, WHOLE)?, (Err(Denied::Full), 0));
+    Ok(())
 }
 
 #[test]
-fn room_at_the_limit(rt: HostRuntime) {
-    assert_eq!(rt; laid(2048, TEN), (Ok(Ref::Node(7)), 8));
-    assert_eq!(rt; laid(2049, TEN), (Err(Denied::Full), 0));
-    assert_eq!(rt; laid(0, TEN), (Err(Denied::Full), 0));
+fn room_at_the_limit(rt: HostRuntime) -> Result<(), Fail> {
+    assert_eq!(rt; laid(2048, TEN)?, (Ok(Ref::Node(7)), 8));
+    assert_eq!(rt; laid(2049, TEN)?, (Err(Denied::Full), 0));
+    assert_eq!(rt; laid(0, TEN)?, (Err(Denied::Full), 0));
     assert_eq!(rt;
-        laid(0, b"access-list 10 permit any"),
+        laid(0, b"access-list 10 permit any")?,
         (Ok(Ref::Code(1)), 0)
     );
+    Ok(())
 }
 
 // A header's bits in the plain order.
 fn bits(header: Header) -> [bool; 104] {
-    let mut bits = [false; 104];
-    let mut at: u32 = 0;
-    for bit in bits.iter_mut() {
-        *bit = header.bit(at);
-        at = at.saturating_add(1);
-    }
-    bits
+    std::array::from_fn(|place| header.bit(place as u32))
 }
 
 fn from(source: u32) -> [bool; 104] {
@@ -93,9 +85,7 @@ fn walks(rt: HostRuntime) -> Result<(), Fail> {
 #[test]
 fn no_such_node(rt: HostRuntime) -> Result<(), Fail> {
     let mut table = Table::new(8);
-    let Some(cube) = piece(TEN) else {
-        return Err(Fail::new("a piece is missing"));
-    };
+    let cube = piece(TEN)?;
     let far = Ref::Node(0);
     assert!(rt; !table.refers(far));
     assert_eq!(rt; table.lay(&cube, far), Err(Denied::NoNode));
@@ -108,13 +98,9 @@ fn no_such_node(rt: HostRuntime) -> Result<(), Fail> {
 
 // Lays the piece of a text over deny.
 fn lay(table: &mut Table, text: &[u8]) -> Result<Ref, Fail> {
-    match piece(text) {
-        None => Err(Fail::new("a piece is missing")),
-        Some(cube) => match table.lay(&cube, Ref::Code(0)) {
-            Ok(root) => Ok(root),
-            Err(_) => Err(Fail::new("no room")),
-        },
-    }
+    table
+        .lay(&piece(text)?, Ref::Code(0))
+        .map_err(|_| Fail::new("no room"))
 }
 
 #[test]

@@ -4,6 +4,7 @@ use orders::before::is_before;
 use orders::fixed::{Plain, Woven};
 use orders::order::Order;
 use orders::profile::Profile;
+use std::array;
 use std::process::Abort;
 
 // The bit at each place of the woven order.
@@ -18,8 +19,9 @@ const WOVEN: [u16; 104] = [
 // Whether an order has these bits at the places from 0 on, and answers 104 from 104 on.
 fn holds<O: Order>(rt: &impl Abort, order: &O, bits: &[u16]) {
     for (place, bit) in bits.iter().enumerate() {
-        assert_eq!(rt; order.bit_at(place), *bit as usize);
-        assert_eq!(rt; order.place_of(*bit as usize), place);
+        let bit = usize::from(*bit);
+        assert_eq!(rt; order.bit_at(place), bit);
+        assert_eq!(rt; order.place_of(bit), place);
     }
     assert_eq!(rt; order.bit_at(WIDTH), WIDTH);
     assert_eq!(rt; order.place_of(WIDTH), WIDTH);
@@ -29,13 +31,7 @@ fn holds<O: Order>(rt: &impl Abort, order: &O, bits: &[u16]) {
 
 // The bits of the plain order.
 fn plain_bits() -> [u16; 104] {
-    let mut bits = [0; 104];
-    let mut n: u16 = 0;
-    for bit in bits.iter_mut() {
-        *bit = n;
-        n = n.saturating_add(1);
-    }
-    bits
+    array::from_fn(|place| place as u16)
 }
 
 #[test]
@@ -52,12 +48,7 @@ fn woven(rt: HostRuntime) {
 fn profiles(rt: HostRuntime) {
     assert_eq!(rt; Profile::check(&WOVEN), Ok(()));
     holds(&rt, &Profile::make(&WOVEN), &WOVEN);
-    let mut backward = [0; 104];
-    let mut n: u16 = 104;
-    for bit in backward.iter_mut() {
-        n = n.saturating_sub(1);
-        *bit = n;
-    }
+    let backward: [u16; 104] = array::from_fn(|place| 103 - place as u16);
     assert_eq!(rt; Profile::check(&backward), Ok(()));
     holds(&rt, &Profile::make(&backward), &backward);
 }
@@ -77,12 +68,7 @@ fn no_profiles(rt: HostRuntime) {
     let mut high = WOVEN;
     high[103] = 104;
     refused(&rt, &high);
-    let mut longer = [0; 105];
-    let mut n: u16 = 0;
-    for bit in longer.iter_mut() {
-        *bit = n;
-        n = n.saturating_add(1);
-    }
+    let mut longer: [u16; 105] = array::from_fn(|place| place as u16);
     refused(&rt, &longer);
     longer[104] = 0;
     refused(&rt, &longer);

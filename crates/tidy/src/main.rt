@@ -4,16 +4,10 @@
 use std::io::{Read, Write};
 use tidying::tidied::tidied;
 
-fn run(rt: &HostRuntime) -> anyhow::Result<()> {
-    let mut input = Vec::new(rt.alloc());
-    let mut stdin = rt.stdin();
-    let _ = stdin.read_to_end(&mut input)?;
-    let output = tidied(rt.alloc(), &input)?;
-    let mut stdout = rt.stdout();
-    stdout.write_all(&output)?;
-    Ok(())
-}
-
 fn main(rt: HostRuntime) -> anyhow::Result<()> {
-    run(&rt)
+    let mut input = Vec::new(rt.alloc());
+    let _ = rt.stdin().read_to_end(&mut input)?;
+    let output = tidied(rt.alloc(), &input)?;
+    rt.stdout().write_all(&output)?;
+    Ok(())
 }

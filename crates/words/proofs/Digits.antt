@@ -1,12 +1,20 @@
 -- One step of reading digits. Assumes nothing.
-use Rattle.std.proofs.Common.{◌≡◌, ℕ, ◌+◌, ◌-◌, ◌*◌, ◌<◌, ◌≤◌, Bool, true, false, cond, leb, ◌⊎◌, List, [], ◌∷◌, length, get_or, drop, Some, None, sym, refl, ap, ◌∙◌, ⊎_elim, add-one, arith, drop-cons, rules, leb-true}
+use Rattle.std.proofs.Common.{◌≡◌, ℕ, ◌+◌, ◌-◌, ◌*◌, ◌<◌, ◌≤◌, Bool, true, false, cond, leb, nat_le, ◌&&◌, ◌==◌, List, [], ◌∷◌, length, get_or, drop, Some, None, sym, refl, ap, ◌∙◌, add-one, arith, drop-cons, rules, leb-true}
+use Rattle.std.specs.Char.{is_ascii_digit}
+use Rattle.std.proofs.lemmas.Bool.Decides.{nat_tests}
 use lib.Seq.{drop-length}
 use Rattle.words.specs.Numbers.{digit, digits, read_on, within, numeral, number_in}
+
+some_left : (n : ℕ) → false ≡ (n == 0) → 0 < n
+some_left n e = grind (arith, nat_tests)
 
 pub numeral_digits : (bs : List ℕ) → 0 < length bs → (get_or bs 0 0 ≡ 48 → length bs ≤ 1) → numeral bs ≡ digits bs
 numeral_digits [] h z = absurd (omega arith)
 numeral_digits (b ∷ []) h z = search rules
 numeral_digits (b ∷ c ∷ cs) h z = search rules
+
+pub numeral_some : (bs : List ℕ) → false ≡ (length bs == 0) → (get_or bs 0 0 ≡ 48 → length bs ≤ 1) → numeral bs ≡ digits bs
+numeral_some bs h z = numeral_digits bs (some_left (length bs) h) z
 
 read_on_ge : (n : ℕ) (bs : List ℕ) → n ≤ read_on n bs
 read_on_ge n [] = omega arith
@@ -44,19 +52,16 @@ below low high n h = search rules
 pub inside : (low high n : ℕ) → low ≤ n → n ≤ high → Some n ≡ within low high n
 inside low high n h k = search rules
 
-pub not_digit : (b : ℕ) → (b < 48) ⊎ ((48 ≤ b) × (57 < b)) → digit b ≡ false
-not_digit b h = ⊎_elim (λ l. low b l) (λ p. high b p.1) h where
-  low : (b : ℕ) → b < 48 → digit b ≡ false
-  low b l = search rules
+both_tests : (p q : Bool) → (p && q) ≡ cond p q false
+both_tests true q = refl
+both_tests false q = refl
 
-  high : (b : ℕ) → 57 < b → digit b ≡ false
-  high b l = search rules
+-- the library's digits are these
+pub same_digit : (b : ℕ) → is_ascii_digit b ≡ digit b
+same_digit b = both_tests (nat_le 48 b) (nat_le b 57)
 
-is_digit : (b : ℕ) → 48 ≤ b → b ≤ 57 → digit b ≡ true
-is_digit b h k = search rules
-
-pub digits_more : (w : List ℕ) (i : ℕ) → i < length w → 48 ≤ get_or w i 0 → get_or w i 0 ≤ 57 → digits w ≡ digits (drop i w) → digits w ≡ digits (drop (i + 1) w)
-digits_more w i lt h k dd = dd ∙ digits_at w i lt ∙ ap (λ b. cond b (digits (drop (i + 1) w)) false) (is_digit _ h k)
+pub digits_more : (w : List ℕ) (i : ℕ) → i < length w → digit (get_or w i 0) ≡ true → digits w ≡ digits (drop i w) → digits w ≡ digits (drop (i + 1) w)
+digits_more w i lt at dd = dd ∙ digits_at w i lt ∙ ap (λ b. cond b (digits (drop (i + 1) w)) false) at
 
 both : (p q : Bool) (v n : ℕ) → cond p (cond q (Some v) None) None ≡ Some n → (p ≡ true) × (q ≡ true) × (v ≡ n)
 both true true v n e = (refl, refl, cc)

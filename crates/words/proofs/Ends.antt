@@ -1,9 +1,11 @@
 -- Where a text line ends. Assumes nothing.
-use Rattle.std.proofs.Common.{◌≡◌, ℕ, zero, suc, ◌+◌, ◌-◌, ◌<◌, ◌≤◌, Bool, true, false, cond, eqb, List, [], ◌∷◌, length, get_or, take, drop, sym, refl, ap, ◌∙◌, arith, length-drop, get_or-drop, take_all, drop-drop}
-use Rattle.std.proofs.lemmas.Bool.{eq-eqb, ne_eqb, cond-true, cond-false}
-use Rattle.std.proofs.lemmas.List.{drop_all}
-use lib.Seq.{drop-length}
-use Rattle.words.specs.Lines.{returning, glued, text_lines, CutAt, after_line}
+use Rattle.std.proofs.Common.{◌≡◌, ℕ, zero, suc, ◌+◌, ◌-◌, ◌<◌, Bool, true, false, cond, eqb, eqb-true, List, [], ◌∷◌, length, get_or, take, drop, Some, sym, refl, ap, ◌∙◌, arith, length-drop, length-take-le}
+use Rattle.std.specs.List.{slice_get}
+use Rattle.std.proofs.lemmas.Bool.{eq-eqb, ne_eqb, false≢true, cond-true, cond-false}
+use Rattle.std.proofs.lemmas.List.{get_or-take, take-take}
+use Rattle.std.proofs.lemmas.Option.{slice_get-get_or, slice_get_within}
+use Rattle.words.specs.Lines.{returning, glued, text_lines, after_line}
+use Rattle.words.proofs.Found.{FoundAt}
 
 both : (b : Bool) → cond b false false ≡ false
 both true = refl
@@ -61,70 +63,54 @@ some_after [] n lt all at = absurd (omega arith)
 some_after (b ∷ bs) zero lt all at = cond-true _ _ _ (eq-eqb b 10 at)
 some_after (b ∷ bs) (suc n) lt all at = cond-false _ _ _ (ne_eqb b 10 (all 0 (omega arith))) ∙ some_after bs n (omega arith) (λ k h. all (suc k) (omega arith)) at
 
-module _ (text : List ℕ) (from stop : ℕ) (some : from < length text) (after : from ≤ stop) (inside : stop ≤ length text) (all : (k : ℕ) → from ≤ k → k < stop → get_or text k 0 ≡ 10 → ⊥) where
-  all_after : (k : ℕ) → k < stop - from → get_or (drop from text) k 0 ≡ 10 → ⊥
-  all_after k h e = all (from + k) (omega arith) (omega arith) (sym (get_or-drop from text k 0) ∙ e)
+held : (a b : ℕ) → Some a ≡ Some b → a ≡ b
+held a b e = cc
 
-  long : length (drop from text) ≡ length text - from
-  long = length-drop from text
+-- a text without a line feed is one line
+pub whole_line : (text : List ℕ) → 0 < length text → ((k : ℕ) → k < length text → get_or text k 0 ≡ 10 → ⊥) → (text_lines text ≡ text ∷ []) × ([] ≡ after_line text) × 0 < length text
+whole_line text some all = (last_line text some all, sym (none_after text all), some)
 
-  moved : (m n : ℕ) → from + m ≡ n → drop m (drop from text) ≡ drop n text
-  moved m n e = drop-drop m from text ∙ ap (λ k. drop k text) e
+-- the line before the first line feed, which may have a carriage return at its end
+module _ (text : List ℕ) (end : ℕ) (at : FoundAt 10 text end) (line : List ℕ)
+    (cut : slice_get (take end text) (length (take end text) - 1) ≡ Some 13 → line ≡ take (length (take end text) - 1) (take end text))
+    (whole : (slice_get (take end text) (length (take end text) - 1) ≡ Some 13 → ⊥) → line ≡ take end text) where
+  long : length (take end text) ≡ end
+  long = length-take-le end text (omega (arith, at.inside))
 
-  read : (m n : ℕ) → from + m ≡ n → get_or (drop from text) m 0 ≡ get_or text n 0
-  read m n e = get_or-drop from text m 0 ∙ ap (λ k. get_or text k 0) e
-
-  pub at_last : stop ≡ length text → CutAt text from stop stop
-  at_last e =
+  last : (m : ℕ) → suc m ≡ end → slice_get (take end text) (length (take end text) - 1) ≡ Some (get_or text m 0)
+  last m e =
       let l = long in
-      let whole : take (stop - from) (drop from text) ≡ drop from text = take_all (stop - from) (drop from text) (omega arith) in
-      let none : drop stop text ≡ [] = ap (λ k. drop k text) e ∙ drop-length text in
-      record {
-        is = last_line (drop from text) (omega arith) (λ k h. all_after k (omega arith)) ∙ ap (λ x. x ∷ []) (sym whole) ∙ ap (λ x. take (stop - from) (drop from text) ∷ text_lines x) (sym none);
-        start = omega arith;
-        order = omega arith;
-        more = omega arith;
-        within = omega arith;
-      }
+      let i : length (take end text) - 1 ≡ m = omega arith in
+      ap (slice_get (take end text)) i ∙ slice_get-get_or (take end text) m 0 (omega arith) ∙ ap Some (get_or-take end text m 0 (omega arith))
 
-  pub at_ten : stop < length text → get_or text stop 0 ≡ 10 → (from < stop → get_or text (stop - 1) 0 ≡ 13 → ⊥) → CutAt text from stop (stop + 1)
-  at_ten lt at plain =
+  ends : (m : ℕ) → suc m ≡ end → (b : Bool) → eqb (get_or text m 0) 13 ≡ b → text_lines text ≡ line ∷ text_lines (drop (suc end) text)
+  ends m e true q =
       let l = long in
-      record {
-        is = by_ten (drop from text) (stop - from) (omega arith) all_after (read (stop - from) stop (omega arith) ∙ at)
-            (λ m e cr. plain (omega arith) (sym (read m (stop - 1) (omega arith)) ∙ cr))
-            ∙ ap (λ x. take (stop - from) (drop from text) ∷ text_lines x) (moved (suc (stop - from)) (stop + 1) (omega arith));
-        start = omega arith;
-        order = omega arith;
-        more = omega arith;
-        within = omega arith;
-      }
+      let r : get_or text m 0 ≡ 13 = eqb-true (get_or text m 0) 13 q in
+      let i : length (take end text) - 1 ≡ m = omega arith in
+      let is : line ≡ take m text = cut (last m e ∙ ap Some r) ∙ ap (λ n. take n (take end text)) i ∙ take-take m end text (omega arith) in
+      by_both text m (omega (arith, at.inside)) (λ k h. at.first k (omega arith)) (ap (λ n. get_or text n 0) e ∙ at.here) r
+      ∙ ap (λ x. x ∷ text_lines (drop (suc (suc m)) text)) (sym is) ∙ ap (λ n. line ∷ text_lines (drop (suc n) text)) e
+  ends m e false q =
+      let other : get_or text m 0 ≡ 13 → ⊥ = λ r. false≢true (sym q ∙ eq-eqb (get_or text m 0) 13 r) in
+      let same : (n : ℕ) → suc n ≡ end → n ≡ m = λ n f. omega arith in
+      by_ten text end at.inside at.first at.here (λ n f r. other (sym (ap (λ x. get_or text x 0) (same n f)) ∙ r))
+      ∙ ap (λ x. x ∷ text_lines (drop (suc end) text)) (sym (whole (λ s. other (held _ _ (sym (last m e) ∙ s)))))
 
-  pub at_both : stop < length text → get_or text stop 0 ≡ 10 → from < stop → get_or text (stop - 1) 0 ≡ 13 → CutAt text from (stop - 1) (stop + 1)
-  at_both lt at gt cr =
+  starts : end ≡ 0 → text_lines text ≡ line ∷ text_lines (drop (suc end) text)
+  starts z =
       let l = long in
-      let n = stop - 1 - from in
-      record {
-        is = by_both (drop from text) n (omega arith) (λ k h. all_after k (omega arith)) (read (suc n) stop (omega arith) ∙ at) (read n (stop - 1) (omega arith) ∙ cr)
-            ∙ ap (λ x. take n (drop from text) ∷ text_lines x) (moved (suc (suc n)) (stop + 1) (omega arith));
-        start = omega arith;
-        order = omega arith;
-        more = omega arith;
-        within = omega arith;
-      }
+      by_ten text end at.inside at.first at.here (λ n f. absurd (omega arith))
+      ∙ ap (λ x. x ∷ text_lines (drop (suc end) text)) (sym (whole (λ s. absurd (omega (arith, slice_get_within (take end text) _ 13 s)))))
 
-  pub after_last : stop ≡ length text → drop stop text ≡ after_line (drop from text)
-  after_last e =
-      let l = long in
-      drop_all stop text (omega arith) ∙ sym (none_after (drop from text) (λ k h. all_after k (omega arith)))
+  first : (m : ℕ) → m ≡ end → text_lines text ≡ line ∷ text_lines (drop (suc end) text)
+  first zero z = starts (sym z)
+  first (suc m) e = ends m e (eqb (get_or text m 0) 13) refl
 
-  pub after_ten : stop < length text → get_or text stop 0 ≡ 10 → drop (stop + 1) text ≡ after_line (drop from text)
-  after_ten lt at =
-      let l = long in
-      sym (moved (suc (stop - from)) (stop + 1) (omega arith))
-      ∙ sym (some_after (drop from text) (stop - from) (omega arith) all_after (read (stop - from) stop (omega arith) ∙ at))
-
--- the line that is cut off is the first one, and less is left
-pub taken : (text : List ℕ) (from end next : ℕ) → from < length text → CutAt text from end next → drop next text ≡ after_line (drop from text)
-    → (text_lines (drop from text) ≡ take (end - from) (drop from text) ∷ text_lines (drop next text)) × (drop next text ≡ after_line (drop from text)) × (length (drop next text) < length (drop from text))
-taken text from end next some cut after = (cut.is, after, simp length-drop (omega (arith, cut.more)))
+  pub cut_line : (text_lines text ≡ line ∷ text_lines (drop (end + 1) text)) × (drop (end + 1) text ≡ after_line text) × (length (drop (end + 1) text) < length text)
+  cut_line =
+      let n : suc end ≡ end + 1 = omega arith in (
+        first end refl ∙ ap (λ k. line ∷ text_lines (drop k text)) n,
+        ap (λ k. drop k text) (sym n) ∙ sym (some_after text end at.inside at.first at.here),
+        simp length-drop (omega (arith, at.inside)),
+      )

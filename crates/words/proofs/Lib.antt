@@ -1,5 +1,6 @@
 pub mod Digits
 pub mod Decimal
+pub mod Found
 pub mod Spans
 pub mod Ends
 pub mod Dots

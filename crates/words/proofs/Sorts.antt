@@ -1,17 +1,19 @@
 -- The sorts of words: a dot among the bytes, and what it rules out. Assumes nothing.
-use Rattle.std.proofs.Common.{◌≡◌, ℕ, ◌+◌, ◌*◌, ◌<◌, Bool, true, false, cond, eqb, List, [], ◌∷◌, length, get_or, drop, Some, None, Option, sym, refl, ap, ◌∙◌, ⊎_elim}
-use Rattle.std.proofs.lemmas.List.{drop_more}
+use Rattle.std.proofs.Common.{◌≡◌, ℕ, ◌+◌, ◌*◌, Bool, true, false, cond, eqb, ◌==◌, ◌||◌, List, [], ◌∷◌, Some, None, Option, sym, refl, ap, ◌∙◌, ⊎_elim}
+use Rattle.std.specs.List.{list_any}
 use Rattle.std.proofs.lemmas.Bool.{eq-eqb, ne_eqb, not-true, true≢false, cond-true, cond-false, cases_eq}
 use Rattle.words.specs.declared.part.Part.{Part}
 use Rattle.words.specs.declared.part.Word.TheVariants.{Number, Address}
 use Rattle.words.specs.Numbers.{digit, digits, numeral, number_in, before_dot, after_dot, and_then, address_in, octets_in}
 use Rattle.words.specs.Cursor.{begins_with_digit, has_dot, well_sorted}
 
-pub dot_here : (bs : List ℕ) (i : ℕ) → i < length bs → get_or bs i 0 ≡ 46 → has_dot (drop i bs) ≡ true
-dot_here bs i lt e = ap has_dot (drop_more bs i 0 lt) ∙ cond-true _ _ _ (eq-eqb _ 46 e)
+either : (t x : Bool) → (t || x) ≡ cond t true x
+either true x = refl
+either false x = refl
 
-pub dot_later : (bs : List ℕ) (i : ℕ) → i < length bs → (get_or bs i 0 ≡ 46 → ⊥) → has_dot (drop i bs) ≡ has_dot (drop (i + 1) bs)
-dot_later bs i lt ne = ap has_dot (drop_more bs i 0 lt) ∙ cond-false _ _ _ (ne_eqb _ 46 ne)
+pub any_dot : (bs : List ℕ) → list_any (λ b. b == 46) bs ≡ has_dot bs
+any_dot [] = refl
+any_dot (b ∷ bs) = either (b == 46) _ ∙ ap (λ x. cond (b == 46) true x) (any_dot bs)
 
 unless : (t x : Bool) → x ≡ false → cond t false x ≡ false
 unless true x e = refl
@@ -48,7 +50,7 @@ none_after (b ∷ bs) e =
     (λ ne. let off = ne_eqb b 46 ne in cond-false _ _ _ off ∙ none_after bs (sym (cond-false _ _ _ off) ∙ e))
     (cases_eq b 46)
 
-nothing : {A B : Type 0} (o : Option A) → and_then {B = B} o (λ (a : A). None) ≡ None
+pub nothing : {A B : Type 0} (o : Option A) → and_then {B = B} o (λ (a : A). None) ≡ None
 nothing None = refl
 nothing (Some a) = refl
 

@@ -1,5 +1,5 @@
 -- The text lines of a text: each ends at byte 10, or at bytes 13 and 10, and the last may lack its end. Assumes nothing.
-use Rattle.std.specs.Prelude.{◌≡◌, ℕ, ◌-◌, ◌<◌, ◌≤◌, Bool, false, cond, List, [], ◌∷◌, length, take, drop, Some, None, Option, ◌==◌}
+use Rattle.std.specs.Prelude.{◌≡◌, ℕ, ◌<◌, Bool, false, cond, List, [], ◌∷◌, length, Some, None, Option, ◌==◌}
 use Rattle.std.specs.Borrow.{Bor}
 use Rattle.words.specs.declared.lines.TextLines.{TextLines}
 
@@ -18,17 +18,9 @@ abbrev pub text_lines : List ℕ → List (List ℕ)
 text_lines [] = []
 text_lines (b ∷ bs) = cond (b == 10) ([] ∷ text_lines bs) (cond (returning b bs) (text_lines bs) (glued b (text_lines bs)))
 
--- the text line from `from` goes to `end`, and the next one starts at `next`
-pub record CutAt (text : List ℕ) (from end next : ℕ) : Type 0 where
-  pub is : text_lines (drop from text) ≡ take (end - from) (drop from text) ∷ text_lines (drop next text)
-  pub start : from ≤ end
-  pub order : end ≤ next
-  pub more : from < next
-  pub within : next ≤ length text
-
 -- the bytes that are still to come
 abbrev pub left : TextLines → List ℕ
-left l = drop l.at l.text.now
+left l = l.rest.now
 
 -- what follows the first byte 10
 abbrev pub after_line : List ℕ → List ℕ

@@ -1,11 +1,13 @@
-ghost use Rattle.std.specs.Prelude.{◌≡◌, ℕ, ◌-◌, ◌^◌, ◌<◌, ◌≤◌, length, ◌≢◌, slice_index};
+ghost use Rattle.std.specs.Prelude.{◌≡◌, ◌-◌, ◌^◌, ◌<◌, ◌≤◌};
 ghost use Rattle.words.specs.Numbers.{number_in, octets_in, address_in};
+
+use crate::bytes::find;
 
 // The number from `low` to `high` that a word writes in decimal with no leading zero, or none.
 pub(crate) fn number_in(word: &[u8], low: u16, high: u16) -> Option<u16>
     ensures { result ≡ number_in low high word.now }
 {
-    if word.len() == 0 {
+    if word.is_empty() {
         return None;
     }
     if word[0] == b'0' && word.len() > 1 {
@@ -13,30 +15,15 @@ pub(crate) fn number_in(word: &[u8], low: u16, high: u16) -> Option<u16>
     }
     let mut n: u32 = 0;
     for b in word {
-        let b = *b;
-        if b < b'0' || b > b'9' {
+        if !b.is_ascii_digit() {
             return None;
         }
-        n = 10 * n + (b - b'0') as u32;
+        n = 10 * n + (*b - b'0') as u32;
         if n > high as u32 {
             return None;
         }
     }
     if n < low as u32 { None } else { Some(n as u16) }
-}
-
-// Where the first dot stands, or the word's length.
-fn first_dot(word: &[u8]) -> usize
-    ensures within { result ≤ length word.now }
-    ensures before { (k : ℕ) → k < result → slice_index word.now k ≢ 46 }
-    ensures found { result < length word.now → slice_index word.now result ≡ 46 }
-{
-    for (i, b) in word.iter().enumerate() {
-        if *b == b'.' {
-            return i;
-        }
-    }
-    word.len()
 }
 
 // The value of `left` + 1 numbers 0 to 255 joined by dots, after those that made `value`.
@@ -48,11 +35,8 @@ fn octets(word: &[u8], left: u32, value: u32) -> Option<u32>
         let n = number_in(word, 0, 255)?;
         return Some(value * 256 + n as u32);
     }
-    let end = first_dot(word);
+    let end = find(word, b'.')?;
     let n = number_in(&word[..end], 0, 255)?;
-    if end == word.len() {
-        return None;
-    }
     octets(&word[end + 1..], left - 1, value * 256 + n as u32)
 }
 

@@ -49,9 +49,6 @@ impl<'a> Word<'a> {
     pub fn opens_comment(self) -> bool
         ensures { result ≡ comment (word_shown self.entry).bytes }
     {
-        match self.part().bytes {
-            [b'!', ..] => true,
-            _ => false,
-        }
+        matches!(self.part().bytes, [b'!', ..])
     }
 }

@@ -1,4 +1,4 @@
-ghost use Rattle.std.specs.Prelude.{◌≡◌, ℕ, ◌<◌, ◌≤◌, true, false, length, IfOk, OnErr, slice_index};
+ghost use Rattle.std.specs.Prelude.{◌≡◌, ◌<◌, ◌≤◌, true, not, length, position, unwrap_or, IfOk, OnErr};
 ghost use Rattle.words.specs.Numbers.{number_in, address_in};
 ghost use Rattle.words.specs.Words.{blank, words_at, Next};
 ghost use Rattle.words.specs.Cursor.{rest, rest_of, has_dot, well_sorted, word_part, Peeks, passed, place, stop_at, handed, address_of, number_of, end_of};
@@ -17,58 +17,41 @@ pub struct Words<'a> {
 pub(crate) fn is_blank(b: u8) -> bool
     ensures { result ≡ blank b }
 {
-    b == b'\t' || b == b' '
+    matches!(b, b'\t' | b' ')
 }
 
-fn skip_blanks(line: &[u8], from: usize) -> usize
-    ensures same { words_at line.now from ≡ words_at line.now result }
-    ensures stops { result < length line.now → blank (slice_index line.now result) ≡ false }
+// How many blanks stand before the first word, if there is one.
+fn before_word(bytes: &[u8]) -> Option<usize>
+    ensures { result ≡ position (λ b. not (blank b)) bytes.now }
 {
-    let mut i = from;
-    while i < line.len() && is_blank(line[i]) {
-        i += 1;
-    }
-    i
+    bytes.iter().position(|b| !is_blank(*b))
 }
 
-fn word_end(line: &[u8], from: usize) -> usize
-    requires { from ≤ length line.now }
-    ensures after { from ≤ result }
-    ensures within { result ≤ length line.now }
-    ensures all { (k : ℕ) → from ≤ k → k < result → blank (slice_index line.now k) ≡ false }
-    ensures stops { result < length line.now → blank (slice_index line.now result) ≡ true }
+// How many bytes stand before the first blank, if there is one.
+fn before_blank(bytes: &[u8]) -> Option<usize>
+    ensures { result ≡ position blank bytes.now }
 {
-    let mut i = from;
-    while i < line.len() && !is_blank(line[i]) {
-        i += 1;
-    }
-    i
+    bytes.iter().position(|b| is_blank(*b))
 }
 
 // The first word at or after a column.
 fn next_part<'a>(line: &'a [u8], from: usize) -> Option<Part<'a>>
     ensures { Next line.now from result }
 {
-    let start = skip_blanks(line, from);
-    if start >= line.len() {
-        return None;
-    }
-    let end = word_end(line, start);
+    let rest = line.get(from..)?;
+    let start = before_word(rest)?;
+    let word = &rest[start..];
+    let end = before_blank(word).unwrap_or(word.len());
     Some(Part {
-        bytes: &line[start..end],
-        column: start,
+        bytes: &word[..end],
+        column: from + start,
     })
 }
 
 fn has_dot(bytes: &[u8]) -> bool
     ensures { result ≡ has_dot bytes.now }
 {
-    for b in bytes {
-        if *b == b'.' {
-            return true;
-        }
-    }
-    false
+    bytes.contains(&b'.')
 }
 
 // A part as the word that its bytes make it.
@@ -77,15 +60,12 @@ fn sorted<'a>(part: Part<'a>) -> Word<'a>
     ensures same { word_part result ≡ part.entry }
     ensures sort { well_sorted result ≡ true }
 {
-    match part.bytes[0] {
-        b'0'..=b'9' => {
-            if has_dot(part.bytes) {
-                Word::Address(part)
-            } else {
-                Word::Number(part)
-            }
-        }
-        _ => Word::Keyword(part),
+    if !part.bytes[0].is_ascii_digit() {
+        Word::Keyword(part)
+    } else if has_dot(part.bytes) {
+        Word::Address(part)
+    } else {
+        Word::Number(part)
     }
 }
 
@@ -124,21 +104,15 @@ impl<'a> Words<'a> {
     pub fn peek(&self) -> Option<Word<'a>>
         ensures { Peeks (rest self.now).words result }
     {
-        let line = self.line;
-        match next_part(line, self.at) {
-            None => None,
-            Some(part) => Some(sorted(part)),
-        }
+        Some(sorted(next_part(self.line, self.at)?))
     }
 
     // Goes past the next word, if there is one.
     pub fn pass(&mut self)
         ensures { rest self.new ≡ passed (rest self.old) }
     {
-        let line = self.line;
-        match next_part(line, self.at) {
-            None => {}
-            Some(part) => self.at = part.column + part.bytes.len(),
+        if let Some(part) = next_part(self.line, self.at) {
+            self.at = part.column + part.bytes.len();
         }
     }
 
@@ -146,11 +120,7 @@ impl<'a> Words<'a> {
     pub fn place(&self) -> usize
         ensures { result ≡ place (rest self.now) }
     {
-        let line = self.line;
-        match next_part(line, self.at) {
-            None => line.len(),
-            Some(part) => part.column,
-        }
+        next_part(self.line, self.at).map_or(self.line.len(), |part| part.column)
     }
 
     // A refusal at the next word, or at the line's length where there is none.
@@ -168,16 +138,14 @@ impl<'a> Words<'a> {
         ensures value { handed result (rest self.new) ≡ address_of (rest self.old) }
         ensures stays { OnErr result (self.new ≡ self.old) }
     {
-        match self.peek() {
-            None => Err(self.stop(Refusal::BadWord)),
-            Some(word) => match address_of(word) {
-                None => Err(self.stop(Refusal::BadAddress)),
-                Some(address) => {
-                    self.pass();
-                    Ok(address)
-                }
-            },
-        }
+        let Some(word) = self.peek() else {
+            return Err(self.stop(Refusal::BadWord));
+        };
+        let Some(address) = address_of(word) else {
+            return Err(self.stop(Refusal::BadAddress));
+        };
+        self.pass();
+        Ok(address)
     }
 
     // The next word as a number from `low` to `high`; where it is refused, it stays the next.
@@ -186,16 +154,14 @@ impl<'a> Words<'a> {
         ensures bound { IfOk result (λ n. (low ≤ n) × (n ≤ high)) }
         ensures stays { OnErr result (self.new ≡ self.old) }
     {
-        match self.peek() {
-            None => Err(self.stop(Refusal::BadWord)),
-            Some(word) => match number_of(word, low, high) {
-                None => Err(self.stop(Refusal::BadNumber)),
-                Some(n) => {
-                    self.pass();
-                    Ok(n)
-                }
-            },
-        }
+        let Some(word) = self.peek() else {
+            return Err(self.stop(Refusal::BadWord));
+        };
+        let Some(n) = number_of(word, low, high) else {
+            return Err(self.stop(Refusal::BadNumber));
+        };
+        self.pass();
+        Ok(n)
     }
 
     // Refuses a word that is left over.

@@ -108,14 +108,14 @@ written ls n space k e = go (ltb 1024 (length ls)) (family_of n) refl refl e whe
   by : (f : Family) (x y : Bool) → family_of n ≡ Some f → length ls ≤ 1024 → allowed f ls ≡ x → ltb 65536 (length (list_bytes n f ls)) ≡ y
       → cond x (cond y (Err TooLong) (cond (ltb space (length (list_bytes n f ls))) (Err ShortMemory) (Ok (length (list_bytes n f ls))))) (Err NotStandard) ≡ Ok k
       → (f : Family) × Written ls n f
-  by f false y family few a b e = let z : ◌≡◌ {A = ℕ} 0 1 = cc in absurd (omega arith)
-  by f true true family few a b e = let z : ◌≡◌ {A = ℕ} 0 1 = cc in absurd (omega arith)
+  by f false y family few a b e = cc
+  by f true true family few a b e = cc
   by f true false family few a b e = (f, record { few = few; family = family; good = a; small = ltb-false 65536 (length (list_bytes n f ls)) b })
 
   go : (x : Bool) (o : Option Family) → ltb 1024 (length ls) ≡ x → family_of n ≡ o → cond x (Err TooManyLines) (write_by ls n space o) ≡ Ok k
       → (f : Family) × Written ls n f
-  go true o a b e = let z : ◌≡◌ {A = ℕ} 0 1 = cc in absurd (omega arith)
-  go false None a b e = let z : ◌≡◌ {A = ℕ} 0 1 = cc in absurd (omega arith)
+  go true o a b e = cc
+  go false None a b e = cc
   go false (Some f) a b e = by f (allowed f ls) (ltb 65536 (length (list_bytes n f ls))) b (ltb-false 1024 (length ls) a) refl refl e
 
 -- the text of a list has the form

@@ -1,7 +1,8 @@
 -- The words written of a line have the forms of the grammar. Assumes nothing.
-use Rattle.std.proofs.Common.{◌≡◌, ℕ, zero, suc, ◌+◌, ◌-◌, ◌*◌, ◌/◌, ◌%◌, ◌^◌, ◌<◌, ◌≤◌, min, Bool, true, false, cond, eqb, ltb, List, [], ◌∷◌, length, codes, decimal, sym, refl, ap, ◌∙◌, subst, pow-suc, arith, length-append}
-use lib.Bits.{bit_and, and_step, and_zero_l, and_mask}
-use Rattle.std.proofs.lemmas.Bool.{false≢true, eqb-true, ltb-true, leb-true}
+use Rattle.std.proofs.Common.{◌≡◌, ℕ, ◌-◌, ◌/◌, ◌%◌, ◌^◌, ◌<◌, ◌≤◌, Bool, true, false, cond, eqb, ltb, List, [], ◌∷◌, length, codes, decimal, sym, refl, ap, ◌∙◌, subst, arith, length-append}
+use lib.Bits.{bit_and, and_mask}
+use Rattle.std.proofs.lemmas.Nat.{and-not, and_comm}
+use Rattle.std.proofs.lemmas.Bool.{eqb-true, ltb-true, leb-true}
 use Rattle.acl.specs.declared.terms.Action.{Action}
 use Rattle.acl.specs.declared.terms.Action.TheVariants.{Deny, Permit}
 use Rattle.acl.specs.declared.terms.Protocol.{Protocol}
@@ -10,7 +11,6 @@ use Rattle.acl.specs.declared.terms.PortTest.{PortTest}
 use Rattle.acl.specs.declared.terms.PortTest.TheVariants.{Any as AnyPort, Eq, Neq, Lt, Gt, Range}
 use Rattle.acl.specs.declared.side.Side.{Side}
 use Rattle.acl.specs.declared.line.Line.{Line}
-use Rattle.acl.proofs.Masks.{half_not, odd_not}
 use Rattle.acl.specs.Shapes.{SideShape, Shape, side_shape, any_side, shape}
 use Rattle.acl.specs.Terms.{port_case, protocol_case, ordered, protocol_narrow, ports_narrow, ports_allowed}
 use Rattle.words.specs.Meaning.{AddressText}
@@ -25,23 +25,9 @@ use Rattle.writer.specs.Canon.{dotted, network_words, port_words, protocol_word,
 use Rattle.writer.specs.Writing.{standard_line, allowed}
 use Rattle.writer.proofs.Plain.{Plain, Plains, parts, key, plain_decimal, plain_dotted, plains_append}
 
--- the complement of w among the numbers below p * 2: its upper bits, and its lowest
--- on numbers of one bit: what is cleared under y is kept under its complement
-low_kept : (x y : ℕ) → x < 2 → y < 2 → min x y ≡ 0 → min x (1 - y) ≡ x
-low_kept x y h k e = omega arith
-
 -- a number that is cleared under a wildcard is kept under its complement
 kept : (k a w : ℕ) → a < 2 ^ k → w < 2 ^ k → bit_and a w ≡ 0 → bit_and a (2 ^ k - 1 - w) ≡ a
-kept zero a w h l e = let z : a ≡ 0 = omega arith in ap (λ x. bit_and x (2 ^ 0 - 1 - w)) z ∙ and_zero_l (2 ^ 0 - 1 - w) ∙ sym z
-kept (suc k) a w h l e =
-    let double = pow-suc 2 k in
-    let n = 2 ^ suc k - 1 - w in
-    let half : n / 2 ≡ 2 ^ k - 1 - w / 2 = ap (λ p. (p - 1 - w) / 2) double ∙ half_not (2 ^ k) w (omega arith) in
-    let odd : n % 2 ≡ 1 - w % 2 = ap (λ p. (p - 1 - w) % 2) double ∙ odd_not (2 ^ k) w (omega arith) in
-    let both : bit_and (a / 2) (w / 2) * 2 + min (a % 2) (w % 2) ≡ 0 = sym (and_step a w) ∙ e in
-    let upper : bit_and (a / 2) (n / 2) ≡ a / 2 = ap (bit_and (a / 2)) half ∙ kept k (a / 2) (w / 2) (omega arith) (omega arith) (omega arith) in
-    let low : min (a % 2) (n % 2) ≡ a % 2 = ap (min (a % 2)) odd ∙ low_kept (a % 2) (w % 2) (omega arith) (omega arith) (omega arith) in
-    and_step a n ∙ omega (arith, upper, low)
+kept k a w h l e = and_comm a (2 ^ k - 1 - w) ∙ omega (arith, and-not k w a l h, and_comm w a, e)
 
 -- a side is read back as it was
 side_back : (s : Side) → side_of (network s.address s.wildcard) s.ports ≡ side_shape s
@@ -52,10 +38,7 @@ side_back s =
 
 -- where all bits are ignored the address is 0
 none_left : (a w : ℕ) → a < 2 ^ 32 → w ≡ 4294967295 → bit_and a w ≡ 0 → a ≡ 0
-none_left a w h e c =
-    let m : bit_and a 4294967295 ≡ a % 2 ^ 32 = and_mask a 32 in
-    let z : bit_and a 4294967295 ≡ 0 = ap (bit_and a) (sym e) ∙ c in
-    omega arith
+none_left a w h e c = omega (arith, and_mask a 32, ap (bit_and a) (sym e) ∙ c)
 
 address_text : (a : ℕ) → a < 2 ^ 32 → AddressText (dotted a) a
 address_text a h = record {
@@ -192,15 +175,15 @@ extended_formed l =
 -- the terms of number 0
 any_protocol : (p : Protocol) → eqb (protocol_case p).number 0 ≡ true → p ≡ AnyProtocol
 any_protocol AnyProtocol e = refl
-any_protocol (Number n) e = absurd (false≢true e)
+any_protocol (Number n) e = cc
 
 any_ports : (t : PortTest) → eqb (port_case t).number 0 ≡ true → t ≡ AnyPort
 any_ports AnyPort e = refl
-any_ports (Eq n) e = absurd (false≢true e)
-any_ports (Neq n) e = absurd (false≢true e)
-any_ports (Lt n) e = absurd (false≢true e)
-any_ports (Gt n) e = absurd (false≢true e)
-any_ports (Range a b) e = absurd (false≢true e)
+any_ports (Eq n) e = cc
+any_ports (Neq n) e = cc
+any_ports (Lt n) e = cc
+any_ports (Gt n) e = cc
+any_ports (Range a b) e = cc
 
 -- any protocol allows no port test
 no_ports : (p : Protocol) (t : PortTest) → p ≡ AnyProtocol → ports_allowed p t ≡ true → t ≡ AnyPort

@@ -1,7 +1,7 @@
 -- Words of bytes above 32, joined by spaces to text lines of at most 256 bytes. Assumes nothing.
 use Rattle.std.proofs.Common.{◌≡◌, ℕ, ◌*◌, ◌^◌, ◌<◌, ◌≤◌, Bool, true, false, cond, ltb, leb, List, [], ◌∷◌, ◌++◌, length, decimal, sym, refl, ap, ◌∙◌, append_assoc, arith, length-append}
 use Rattle.std.proofs.lemmas.Fmt.{decimal_nonempty, length-decimal-le}
-use Rattle.std.proofs.lemmas.Bool.{false≢true, ltb-true, lt-ltb, leb-true, ne_eqb}
+use Rattle.std.proofs.lemmas.Bool.{ltb-true, lt-ltb, leb-true, ne_eqb}
 use Rattle.words.specs.Words.{fresh}
 use Rattle.words.specs.Numbers.{digit, digits}
 use Rattle.words.proofs.Decimal.{decimal_digits}
@@ -18,7 +18,7 @@ dark (b ∷ bs) = cond (ltb 32 b) (dark bs) false
 -- the two parts of a test and another
 pub parts : (x y : Bool) → cond x y false ≡ true → (x ≡ true) × (y ≡ true)
 parts true y e = (refl, e)
-parts false y e = absurd (false≢true e)
+parts false y e = cc
 
 dark_append : (v w : List ℕ) → dark v ≡ true → dark w ≡ true → dark (v ++ w) ≡ true
 dark_append [] w h k = k
@@ -132,7 +132,7 @@ pub length_line : (w : List ℕ) (ws : List (List ℕ)) → Plain w → Plains w
 length_line w ws p h few = simp length-append (omega (arith, p.short, length_words ws h))
 
 -- what is written of words: the text line, and byte 10
-spaced_words : (ws : List (List ℕ)) (t : List ℕ) → spaced ws ++ t ≡ words ws ++ (10 ∷ t)
+pub spaced_words : (ws : List (List ℕ)) (t : List ℕ) → spaced ws ++ t ≡ words ws ++ (10 ∷ t)
 spaced_words [] t = refl
 spaced_words (w ∷ ws) t =
     ap (λ x. 32 ∷ x) (append_assoc w (spaced ws) t ∙ ap (λ x. w ++ x) (spaced_words ws t) ∙ sym (append_assoc w (words ws) (10 ∷ t)))

@@ -3,4 +3,5 @@
 
 mod lines;
 mod pen;
+mod token;
 pub mod write;

@@ -1,4 +1,6 @@
-ghost use Rattle.std.specs.Prelude.{◌≡◌, ◌≤◌, map, length};
+ghost use Rattle.std.specs.Prelude.{◌≡◌, map, length};
+ghost use Rattle.std.specs.List.{list_all};
+ghost use Rattle.acl.specs.declared.line.Line.{Line};
 ghost use Rattle.acl.specs.Shapes.{shape};
 ghost use Rattle.writer.specs.Canon.{list_bytes};
 ghost use Rattle.writer.specs.Writing.{standard_line, all_standard, allowed, sized, write_of, text_for, memory_after};
@@ -8,7 +10,7 @@ use crate::lines::put_list;
 use acl::line::Line;
 use acl::refusal::Refusal;
 use acl::terms::{PortTest, Protocol};
-use ios::family::Family;
+use ios::family::{Family, ListNumber};
 use ios::read::{MOST_BYTES, MOST_LINES};
 
 // Whether a standard list can hold the line: any protocol, and any destination.
@@ -16,24 +18,20 @@ fn standard_line(line: Line) -> bool
     ensures { result ≡ standard_line (shape line) }
 {
     let destination = line.destination;
-    match (line.protocol, destination.wildcard, destination.ports) {
-        (Protocol::Any, 0xffff_ffff, PortTest::Any) => true,
-        _ => false,
-    }
+    matches!(
+        (line.protocol, destination.wildcard, destination.ports),
+        (Protocol::Any, 0xffff_ffff, PortTest::Any)
+    )
 }
 
 fn all_standard(lines: &[Line]) -> bool
-    ensures { result ≡ all_standard (map shape lines.now) }
+    ensures { result ≡ list_all (λ (line : Line). standard_line (shape line)) lines.now }
 {
-    for line in lines {
-        if !standard_line(*line) {
-            return false;
-        }
-    }
-    true
+    lines.iter().all(|line| standard_line(*line))
 }
 
 // Whether a list of this form can hold the lines.
+#[tactic(auto, using(crate::proofs::Turns::each_standard))]
 fn holds(family: Family, lines: &[Line]) -> bool
     ensures { result ≡ allowed family (map shape lines.now) }
 {
@@ -43,25 +41,19 @@ fn holds(family: Family, lines: &[Line]) -> bool
     }
 }
 
-// Writes lines that a list of this form can hold, if the text is not too long.
-fn write_held(
-    lines: &[Line],
-    number: u16,
-    family: Family,
-    memory: &mut [u8],
-) -> Result<usize, Refusal>
-    requires { length lines.now ≤ 1024 }
-    ensures answer { result ≡ sized (length (list_bytes number family (map shape lines.now))) (length memory.old) }
-    ensures written { memory.new ≡ memory_after result (list_bytes number family (map shape lines.now)) memory.old }
+// Writes lines that the list can hold, if the text is not too long.
+fn write_held(lines: &[Line], list: ListNumber, memory: &mut [u8]) -> Result<usize, Refusal>
+    ensures answer { result ≡ sized (length (list_bytes list.number list.family (map shape lines.now))) (length memory.old) }
+    ensures written { memory.new ≡ memory_after result (list_bytes list.number list.family (map shape lines.now)) memory.old }
 {
-    let length = put_list(&mut [], number, family, lines);
+    let length = put_list(&mut [], list, lines);
     if length > MOST_BYTES {
         return Err(Refusal::TooLong);
     }
     if length > memory.len() {
         return Err(Refusal::ShortMemory);
     }
-    Ok(put_list(memory, number, family, lines))
+    Ok(put_list(memory, list, lines))
 }
 
 // Writes a list, by the definitions alone.
@@ -72,13 +64,11 @@ fn write_text(lines: &[Line], number: u16, memory: &mut [u8]) -> Result<usize, R
     if lines.len() > MOST_LINES {
         return Err(Refusal::TooManyLines);
     }
-    let Some(family) = Family::of(number) else {
-        return Err(Refusal::BadNumber);
-    };
+    let family = Family::try_from(number)?;
     if !holds(family, lines) {
         return Err(Refusal::NotStandard);
     }
-    write_held(lines, number, family, memory)
+    write_held(lines, ListNumber { number, family }, memory)
 }
 
 // Writes the lines of the list `number` in canonical form into text memory; the text's length.

@@ -1,4 +1,4 @@
-ghost use Rattle.std.specs.Prelude.{◌≡◌, ◌<◌, ◌≤◌};
+ghost use Rattle.std.specs.Prelude.{◌≡◌};
 
 use super::Cube;
 use model::ask::Ask;
@@ -11,15 +11,9 @@ impl Cube {
     {
         let mut next = [104u8; 104];
         let mut coming = 104u8;
-        let mut place = 104usize;
-        while place > 0 {
-            place -= 1;
-            let ask = asks[place];
-            match ask {
-                Ask::Ignored => {}
-                Ask::Wanted(_) => {
-                    coming = place as u8;
-                }
+        for place in (0..104).rev() {
+            if asks[place].is_some() {
+                coming = place as u8;
             }
             next[place] = coming;
         }

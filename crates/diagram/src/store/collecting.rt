@@ -1,24 +1,20 @@
 // Nodes that no root reaches are left out, and the others renumbered.
-ghost use Rattle.std.specs.Prelude.{◌≡◌, ℕ, ◌+◌, ◌<◌, ◌≤◌, length, slice_index_or};
+ghost use Rattle.std.specs.Prelude.{◌≡◌, ℕ, ◌<◌, length, slice_index_or};
 ghost use Rattle.model.specs.declared.node.Ref.TheVariants.{Code};
-ghost use Rattle.diagram.specs.Nodes.{table_of, Under};
-ghost use Rattle.diagram.specs.Stores.{nodes_of, Whole};
-ghost use Rattle.diagram.specs.Collecting.{Marks, MarksAll, IsMarked, ClosedFrom, MarksReached, Tidy, moved_to, CopiedTo, FromMarked};
+ghost use Rattle.diagram.specs.Nodes.{Under};
+ghost use Rattle.diagram.specs.Collecting.{Marks, MarksAll, IsMarked, ClosedFrom, MarksReached, moved_to, CopiedTo, FromMarked};
 
 use super::Store;
 use crate::guard::End;
-use model::node::{Node, Ref};
+use model::node::Ref;
 
 // Marks the node that a reference refers to.
 fn mark(marks: &mut [bool; 2048], r: Ref)
     requires { Under 2048 r }
     ensures { Marks r marks.old marks.new }
 {
-    match r {
-        Ref::Code(_) => {}
-        Ref::Node(i) => {
-            marks[i as usize] = true;
-        }
+    if let Ref::Node(i) = r {
+        marks[i as usize] = true;
     }
 }
 
@@ -28,8 +24,8 @@ pub(crate) fn mark_all(roots: &[Ref]) -> [bool; 2048]
     ensures { MarksAll roots.now result }
 {
     let mut marks = [false; 2048];
-    for i in 0..roots.len() {
-        mark(&mut marks, roots[i]);
+    for r in roots {
+        mark(&mut marks, *r);
     }
     marks
 }
@@ -50,25 +46,21 @@ pub(crate) fn move_all(to: &[Ref; 2048], roots: &mut [Ref])
     requires { (j : ℕ) → j < length roots.old → Under 2048 (slice_index_or roots.old j (Code 0)) }
     ensures { (j : ℕ) → j < length roots.old → slice_index_or roots.new j (Code 0) ≡ moved_to to.now (slice_index_or roots.old j (Code 0)) }
 {
-    for i in 0..roots.len() {
-        let r = roots[i];
-        roots[i] = moved(to, r);
+    for r in roots {
+        *r = moved(to, *r);
     }
 }
 
 impl Store {
     // Marks what the marked nodes refer to, and what that refers to.
     pub(crate) fn spread(&self, marks: &mut [bool; 2048])
-        requires whole { Whole self.now }
         requires inside { (k : ℕ) → IsMarked marks.old k → k < self.now.linked }
-        ensures closed { ClosedFrom self.now.nodes self.now.linked marks.new 0 }
+        ensures closed { ClosedFrom self.now marks.new 0 }
         ensures more { (k : ℕ) → IsMarked marks.old k → IsMarked marks.new k }
         ensures inside { (k : ℕ) → IsMarked marks.new k → k < self.now.linked }
-        ensures reached { MarksReached self.now.nodes marks.old marks.new }
+        ensures reached { MarksReached self.now marks.old marks.new }
     {
-        let mut i = self.linked;
-        while i > 0 {
-            i -= 1;
+        for i in (0..self.linked).rev() {
             if marks[i] {
                 let n = self.nodes[i];
                 mark(marks, n.low);
@@ -77,55 +69,14 @@ impl Store {
         }
     }
 
-    // Makes a copy of the old node `i` of `count`, if it is marked.
-    fn copy(
-        &mut self,
-        end: &mut End,
-        old: &[Node; 2048],
-        count: usize,
-        marks: &[bool; 2048],
-        to: &mut [Ref; 2048],
-        i: usize,
-    )
-        requires whole { Whole self.old }
-        requires level { end.old.at ≡ self.old.linked }
-        requires old { Tidy old.now count }
-        requires room { count ≤ self.old.cap }
-        requires within { i < count }
-        requires few { self.old.linked ≤ i }
-        requires closed { ClosedFrom old.now count marks.now 0 }
-        requires copied { CopiedTo old.now self.old marks.now to.old i }
-        requires only { FromMarked old.now self.old marks.now i }
-        ensures whole { Whole self.new }
-        ensures level { end.new.at ≡ self.new.linked }
-        ensures cap { self.new.cap ≡ self.old.cap }
-        ensures few { self.new.linked ≤ i + 1 }
-        ensures copied { CopiedTo old.now self.new marks.now to.new (i + 1) }
-        ensures only { FromMarked old.now self.new marks.now (i + 1) }
-    {
-        if marks[i] {
-            let n = old[i];
-            let low = moved(to, n.low);
-            let high = moved(to, n.high);
-            match self.join(end, n.place, low, high) {
-                None => {}
-                Some(x) => {
-                    to[i] = x;
-                }
-            }
-        }
-    }
-
     // Keeps what is marked and nothing else, and says where each node went.
     pub(crate) fn keep(&mut self, end: &mut End, marks: &[bool; 2048]) -> [Ref; 2048]
-        requires whole { Whole self.old }
         requires level { end.old.at ≡ self.old.linked }
-        requires closed { ClosedFrom self.old.nodes self.old.linked marks.now 0 }
-        ensures whole { Whole self.new }
+        requires closed { ClosedFrom self.old marks.now 0 }
         ensures level { end.new.at ≡ self.new.linked }
         ensures cap { self.new.cap ≡ self.old.cap }
-        ensures copied { CopiedTo self.old.nodes self.new marks.now result self.old.linked }
-        ensures only { FromMarked self.old.nodes self.new marks.now self.old.linked }
+        ensures copied { CopiedTo self.old self.new marks.now result self.old.linked }
+        ensures only { FromMarked self.old self.new marks.now self.old.linked }
     {
         let old = self.nodes;
         let count = self.linked;
@@ -133,19 +84,24 @@ impl Store {
         self.empty();
         end.at = 0;
         for i in 0..count {
-            self.copy(end, &old, count, marks, &mut to, i);
+            if marks[i] {
+                let n = old[i];
+                let low = moved(&to, n.low);
+                let high = moved(&to, n.high);
+                if let Some(x) = self.join(end, n.place, low, high) {
+                    to[i] = x;
+                }
+            }
         }
         to
     }
 
     // Takes all nodes out of the index.
     fn empty(&mut self)
-        requires { Whole self.old }
-        ensures whole { Whole self.new }
         ensures none { self.new.linked ≡ 0 }
         ensures cap { self.new.cap ≡ self.old.cap }
     {
-        self.head = [0; 4096];
+        self.head = [None; 4096];
         self.linked = 0;
     }
 }

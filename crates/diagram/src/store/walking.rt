@@ -1,25 +1,17 @@
 // Walks over the nodes: deciding, depth, and the first difference of two references.
-ghost use Rattle.std.specs.Prelude.{◌≡◌, ℕ, ◌+◌, ◌-◌, ◌<◌, ◌≤◌, false, if◌then◌else◌, slice_index_or};
+ghost use Rattle.std.specs.Prelude.{◌≡◌, ℕ, ◌+◌, ◌-◌, ◌<◌, ◌≤◌, false, slice_index_or};
 ghost use Rattle.acl.specs.Headers.{width};
 ghost use Rattle.model.specs.Diagram.{top, tests_from, first_from};
 ghost use Rattle.diagram.specs.Nodes.{Under};
-ghost use Rattle.diagram.specs.Stores.{nodes_of, value_in, Whole, Fits};
+ghost use Rattle.diagram.specs.Stores.{nodes_of, value_in, Fits};
 ghost use Rattle.diagram.specs.Walks.{row_of, deepest, DeepNoted};
 
 use super::Store;
-use model::node::{Node, Ref};
-
-// The way on by a bit.
-fn way(n: Node, bit: bool) -> Ref
-    ensures { result ≡ (if bit then n.high else n.low) }
-{
-    if bit { n.high } else { n.low }
-}
+use model::node::Ref;
 
 impl Store {
     // The code that a reference gives to bits by place; the tests made are added to `made`.
     pub(crate) fn decide(&self, bits: &[bool; 104], r: Ref, made: &mut u16) -> u16
-        requires whole { Whole self.now }
         requires under { Under self.now.linked r }
         requires few { made.old ≤ top width (nodes_of self.now) r }
         ensures code { result ≡ value_in self.now r (row_of bits.now) }
@@ -30,15 +22,15 @@ impl Store {
             Ref::Node(i) => {
                 let n = self.nodes[i as usize];
                 *made += 1;
-                self.decide(bits, way(n, bits[n.place as usize]), made)
+                let bit = bits[n.place as usize];
+                let on = if bit { n.high } else { n.low };
+                self.decide(bits, on, made)
             }
         }
     }
 
-    // The most tests from a reference on. Each node's number is noted once, 0 where it is not
-    // known yet.
-    pub(crate) fn depth(&self, deep: &mut [u8; 2048], r: Ref) -> u8
-        requires whole { Whole self.now }
+    // The most tests from a reference on. Each node's number is noted once it is known.
+    pub(crate) fn depth(&self, deep: &mut [Option<u8>; 2048], r: Ref) -> u8
         requires under { Under self.now.linked r }
         requires noted { DeepNoted self.now deep.old }
         ensures noted { DeepNoted self.now deep.new }
@@ -48,15 +40,14 @@ impl Store {
         match r {
             Ref::Code(_) => 0,
             Ref::Node(i) => {
-                let known = deep[i as usize];
-                if known > 0 {
+                if let Some(known) = deep[i as usize] {
                     return known;
                 }
                 let n = self.nodes[i as usize];
                 let low = self.depth(deep, n.low);
                 let high = self.depth(deep, n.high);
                 let most = low.max(high) + 1;
-                deep[i as usize] = most;
+                deep[i as usize] = Some(most);
                 most
             }
         }
@@ -65,7 +56,6 @@ impl Store {
     // The first bits from the place `from` on at which two references differ: 0 where that tells
     // them apart, else 1.
     pub(crate) fn differ(&self, bits: &mut [bool; 104], from: u8, a: Ref, b: Ref)
-        requires whole { Whole self.now }
         requires placed { from ≤ width }
         requires one { Fits self.now from a }
         requires other { Fits self.now from b }
@@ -77,7 +67,7 @@ impl Store {
         }
         let (low_a, high_a) = self.branches(from, a);
         let (low_b, high_b) = self.branches(from, b);
-        let same = low_a.is(low_b);
+        let same = low_a == low_b;
         bits[from as usize] = same;
         if same {
             self.differ(bits, from + 1, high_a, high_b);

@@ -1,8 +1,8 @@
 // The calls on a table.
-ghost use Rattle.std.specs.Prelude.{◌≡◌, ℕ, ◌<◌, ◌≤◌, length, MatchBool, MatchOption, slice_index_or};
+ghost use Rattle.std.specs.Prelude.{◌≡◌, ℕ, ◌<◌, ◌≤◌, length, MatchBool, MatchOption, MatchResult, slice_index_or};
 ghost use Rattle.model.specs.declared.node.Ref.TheVariants.{Code};
-ghost use Rattle.diagram.specs.Cubes.{asked};
-ghost use Rattle.diagram.specs.Stores.{Whole, Grows, Fits, New, Stands, Lacks, laid_from};
+ghost use Rattle.diagram.specs.declared.table.Denied.TheVariants.{NoNode};
+ghost use Rattle.diagram.specs.Stores.{Grows, Fits, New, Stands, Lacks, laid_from};
 ghost use Rattle.diagram.specs.Tables.{Refers, room, room_for, Lays, Collects, Decides, Deep, Differs};
 
 use super::{Denied, Table};
@@ -20,24 +20,18 @@ fn lay_kept(
     cube: &Cube,
     over: Ref,
 ) -> Option<Ref>
-    requires whole { Whole store.old }
     requires level { end.old.at ≡ store.old.linked }
     requires fits { Fits store.old 0 over }
-    ensures whole { Whole store.new }
     ensures grows { Grows store.old store.new }
     ensures kept { end.new.at ≤ store.new.linked }
-    ensures new { New store.old store.new (laid_from (asked cube.now.asks) cube.now.code store.old 0 over) }
-    ensures value { MatchOption result ((end.new.at ≡ end.old.at) × Lacks store.new (laid_from (asked cube.now.asks) cube.now.code store.old 0 over)) (λ x. (end.new.at ≡ store.new.linked) × Stands store.new 0 (laid_from (asked cube.now.asks) cube.now.code store.old 0 over) x) }
+    ensures new { New store.old store.new (laid_from cube.now store.old 0 over) }
+    ensures value { MatchOption result ((end.new.at ≡ end.old.at) × Lacks store.new (laid_from cube.now store.old 0 over)) (λ x. (end.new.at ≡ store.new.linked) × Stands store.new 0 (laid_from cube.now store.old 0 over) x) }
 {
     notes.clear();
-    let mark = end.at;
-    let mut laying = Laying {
-        end,
-        mark,
-        kept: false,
-    };
+    let mark = Some(end.at);
+    let mut laying = Laying { end, mark };
     let x = store.lay(laying.end, notes, cube, 0, over)?;
-    laying.kept = true;
+    laying.mark = None;
     Some(x)
 }
 
@@ -73,30 +67,31 @@ impl Table {
         }
     }
 
+    // Refuses a reference to no node of the table.
+    fn check(&self, r: Ref) -> Result<(), Denied>
+        ensures { MatchResult result (λ _. Refers self.now r) (λ e. (e ≡ NoNode) × (Refers self.now r → ⊥)) }
+    {
+        if self.refers(r) {
+            Ok(())
+        } else {
+            Err(Denied::NoNode)
+        }
+    }
+
     // Lays a piece over a reference. Refused where it refers to no node, and where there is no room.
     pub fn lay(&mut self, cube: &Cube, over: Ref) -> Result<Ref, Denied>
         ensures { Lays self.old self.new cube.now over result }
     {
-        if !self.refers(over) {
-            return Err(Denied::NoNode);
-        }
+        self.check(over)?;
         self.store.trim(&self.end);
-        match lay_kept(&mut self.store, &mut self.end, &mut self.notes, cube, over) {
-            None => Err(Denied::Full),
-            Some(x) => Ok(x),
-        }
+        lay_kept(&mut self.store, &mut self.end, &mut self.notes, cube, over).ok_or(Denied::Full)
     }
 
     // Whether all of these refer to the table.
     fn refer(&self, roots: &[Ref]) -> bool
         ensures { MatchBool result ((j : ℕ) → j < length roots.now → Refers self.now (slice_index_or roots.now j (Code 0))) (((j : ℕ) → j < length roots.now → Refers self.now (slice_index_or roots.now j (Code 0))) → ⊥) }
     {
-        for i in 0..roots.len() {
-            if !self.refers(roots[i]) {
-                return false;
-            }
-        }
-        true
+        roots.iter().all(|&r| self.refers(r))
     }
 
     // Keeps just the nodes that the roots reach, puts in place of each root what it is now, and
@@ -119,9 +114,7 @@ impl Table {
     pub fn decide(&self, bits: &[bool; 104], r: Ref) -> Result<(u16, u16), Denied>
         ensures { Decides self.now bits.now r result }
     {
-        if !self.refers(r) {
-            return Err(Denied::NoNode);
-        }
+        self.check(r)?;
         let mut tests = 0;
         let code = self.store.decide(bits, r, &mut tests);
         Ok((code, tests))
@@ -131,10 +124,8 @@ impl Table {
     pub fn depth(&self, r: Ref) -> Result<u8, Denied>
         ensures { Deep self.now r result }
     {
-        if !self.refers(r) {
-            return Err(Denied::NoNode);
-        }
-        let mut deep = [0; 2048];
+        self.check(r)?;
+        let mut deep = [None; 2048];
         Ok(self.store.depth(&mut deep, r))
     }
 
@@ -142,10 +133,9 @@ impl Table {
     pub fn first_difference(&self, a: Ref, b: Ref) -> Result<Option<[bool; 104]>, Denied>
         ensures { Differs self.now a b result }
     {
-        if !self.refers(a) || !self.refers(b) {
-            return Err(Denied::NoNode);
-        }
-        if a.is(b) {
+        self.check(a)?;
+        self.check(b)?;
+        if a == b {
             return Ok(None);
         }
         let mut bits = [false; 104];

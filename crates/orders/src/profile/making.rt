@@ -1,5 +1,6 @@
 // Profiles are checked, made and read.
 ghost use Rattle.std.specs.Prelude.{◌≡◌, ℕ, ◌<◌, Ok, Err, MatchOption, slice_index};
+ghost use Rattle.acl.specs.Headers.{width};
 ghost use Rattle.orders.specs.Perms.{HoldsOnce, EachOnce, read_at, Checked, Made};
 ghost use Rattle.std.proofs.Common.{rules, arith};
 
@@ -7,32 +8,25 @@ use super::Profile;
 use crate::order::Order;
 use acl::header::WIDTH;
 use acl::refusal::Refusal;
+use std::array;
 
-// The place of each number, if the list holds each of 0 to 103 once. One pass fills the places,
-// so that a number that stands twice is seen; 104 different numbers below 104 are all of them.
-fn inverse(list: &[u16]) -> Option<[u8; 104]>
-    ensures { MatchOption result (EachOnce list.now → ⊥) (λ places. EachOnce list.now × ((p : ℕ) → p < 104 → slice_index places (slice_index list.now p) ≡ p)) }
+// The place of each number, if the list holds each of 0 to 103 once. A number that finds its
+// place taken stands twice; 104 different ones are all of them, so that none is left without.
+fn inverse(list: &[u16]) -> Option<[u8; WIDTH]>
+    ensures { MatchOption result (EachOnce list.now → ⊥) (λ places. EachOnce list.now × ((p : ℕ) → p < width → slice_index places (slice_index list.now p) ≡ p)) }
 {
     if list.len() != WIDTH {
         return None;
     }
-    let mut places = [104u8; 104];
-    for p in 0..104 {
-        let bit = list[p];
-        if bit >= 104 {
+    let mut places = [None; WIDTH];
+    for (place, bit) in list.iter().enumerate() {
+        let bit = usize::from(*bit);
+        if places.get(bit)?.is_some() {
             return None;
         }
-        if places[bit as usize] != 104 {
-            return None;
-        }
-        places[bit as usize] = p as u8;
+        places[bit] = Some(place as u8);
     }
-    for b in 0..104 {
-        if places[b] == 104 {
-            return None;
-        }
-    }
-    Some(places)
+    Some(places.map(|place| place.unwrap()))
 }
 
 impl Profile {
@@ -40,10 +34,8 @@ impl Profile {
     pub fn check(list: &[u16]) -> Result<(), Refusal>
         ensures { Checked list.now result }
     {
-        match inverse(list) {
-            Some(_) => Ok(()),
-            None => Err(Refusal::BadProfile),
-        }
+        inverse(list).ok_or(Refusal::BadProfile)?;
+        Ok(())
     }
 
     // The profile that a list gives by place. Made from what the check refuses, it is the plain
@@ -54,20 +46,14 @@ impl Profile {
         let Some(places) = inverse(list) else {
             return Profile::plain();
         };
-        let mut bits = [0u8; 104];
-        for p in 0..104 {
-            bits[p] = list[p] as u8;
-        }
+        let bits = array::from_fn(|place| list[place] as u8);
         Profile { bits, places }
     }
 
     fn plain() -> Profile
-        ensures { (p : ℕ) → p < 104 → slice_index result.bits p ≡ p }
+        ensures { (p : ℕ) → p < width → slice_index result.bits p ≡ p }
     {
-        let mut bits = [0u8; 104];
-        for p in 0..104 {
-            bits[p] = p as u8;
-        }
+        let bits = array::from_fn(|place| place as u8);
         Profile { bits, places: bits }
     }
 }
@@ -77,31 +63,13 @@ impl Order for Profile {
 
     ghost places = { λ s. read_at s.places };
 
-    ghost bit_within = { first_of (Prim.search rules, Prim.grind (arith, Self.row.coded.inj)) };
-
-    ghost place_within = { first_of (Prim.search rules, Prim.grind (arith, Self.row.coded.inj)) };
-
-    ghost place_of_bit = { first_of (Prim.search rules, Prim.grind (arith, Self.row.coded.inj)) };
-
-    ghost bit_of_place = { first_of (Prim.search rules, Prim.grind (arith, Self.row.coded.inj)) };
-
-    ghost bit_past = { first_of (Prim.search rules, Prim.grind (arith, Self.row.coded.inj)) };
-
-    ghost place_past = { first_of (Prim.search rules, Prim.grind (arith, Self.row.coded.inj)) };
+    ghost laws = { Prim.search rules };
 
     fn bit_at(&self, place: usize) -> usize {
-        if place < WIDTH {
-            self.bits[place] as usize
-        } else {
-            WIDTH
-        }
+        self.bits.get(place).map_or(WIDTH, |&bit| bit.into())
     }
 
     fn place_of(&self, bit: usize) -> usize {
-        if bit < WIDTH {
-            self.places[bit] as usize
-        } else {
-            WIDTH
-        }
+        self.places.get(bit).map_or(WIDTH, |&place| place.into())
     }
 }

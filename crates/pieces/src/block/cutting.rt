@@ -1,47 +1,14 @@
 // Port tests are cut into blocks.
-ghost use Rattle.std.specs.Prelude.{◌≡◌, ◌+◌, ◌^◌, ◌<◌, ◌≤◌, [], ◌++◌, length};
-ghost use Rattle.pieces.specs.Blocks.{goes, largest, block_from, between, blocks, BlocksStand};
-ghost use Rattle.pieces.specs.Left.{block_shape, blocks_left, Yields};
-ghost use Rattle.std.specs.Iterator.{at_most};
+ghost use Rattle.std.specs.Prelude.{◌≡◌, ◌^◌, ◌<◌, ◌≤◌, [], length};
+ghost use Rattle.pieces.specs.Blocks.{goes, largest, between, blocks, BlocksStand};
+ghost use Rattle.pieces.specs.Left.{block_shape, ports_left, blocks_left};
+ghost use Rattle.std.specs.Iterator.{YieldsFirstBy, item_count};
 
-use super::{Block, Blocks};
+use super::{Block, Blocks, Ports};
 use acl::terms::PortTest;
 
 // One more than the highest port.
 const PORTS: u32 = 65536;
-
-// Whether a block of 2 ^ exponent ports can start at `at`: at a multiple of its size, and
-// staying below `end`.
-fn can_start(exponent: u32, at: u32, end: u32) -> bool
-    requires { (exponent ≤ 16) × (at ≤ 65536) }
-    ensures { result ≡ goes exponent at end }
-{
-    let size = 1 << exponent;
-    at % size == 0 && at + size <= end
-}
-
-// The largest block that can start at `at`.
-fn largest_exponent(at: u32, end: u32) -> u32
-    requires { (at < end) × (end ≤ 65536) }
-    ensures { result ≡ largest 16 at end }
-{
-    let mut exponent = 16;
-    while exponent > 0 && !can_start(exponent, at, end) {
-        exponent -= 1;
-    }
-    exponent
-}
-
-fn block_from(at: u32, end: u32) -> Block
-    requires { (at < end) × (end ≤ 65536) }
-    ensures { block_shape result ≡ block_from at end }
-{
-    let exponent = largest_exponent(at, end);
-    Block {
-        start: at,
-        exponent,
-    }
-}
 
 impl Block {
     // How many ports the block has, 1 to 65,536.
@@ -52,30 +19,85 @@ impl Block {
     }
 }
 
-// The blocks of the ports from `at` up to `end`, and then of those from `next` up to `last`.
-fn over(at: u32, end: u32, next: u32, last: u32) -> Blocks
-    requires { (end ≤ 65536) × (last ≤ 65536) }
-    ensures { blocks_left result ≡ between at end ++ between next last }
-{
-    Blocks {
-        at,
-        end,
-        next,
-        last,
+impl Ports {
+    fn new(at: u32, end: u32) -> Ports
+        requires { end ≤ 65536 }
+        ensures { ports_left result ≡ between at end }
+    {
+        Ports { at, end }
+    }
+
+    // Whether a block of 2 ^ exponent ports can start at `at`: at a multiple of its size, and
+    // staying below `end`.
+    fn can_start(self, exponent: u32) -> bool
+        requires { (exponent ≤ 16) × (self.at ≤ 65536) }
+        ensures { result ≡ goes exponent self.at self.end }
+    {
+        let size = 1 << exponent;
+        self.at % size == 0 && self.at + size <= self.end
+    }
+
+    // The largest block that can start at `at`: one of a single port always can.
+    fn largest_exponent(self) -> u32
+        requires { self.at < self.end }
+        ensures { result ≡ largest 16 self.at self.end }
+    {
+        (1..=16)
+            .rev()
+            .find(|exponent| self.can_start(*exponent))
+            .unwrap_or(0)
     }
 }
 
-// The range of a port test, and for neq the two of them.
+impl Iterator for Ports {
+    type Item = Block;
+
+    ghost next_gives = { YieldsFirstBy block_shape ports_left };
+
+    ghost remaining = { item_count ports_left };
+
+    // The largest block at the low end.
+    fn next(&mut self) -> Option<Block> {
+        if self.at >= self.end {
+            return None;
+        }
+        let block = Block {
+            start: self.at,
+            exponent: self.largest_exponent(),
+        };
+        self.at += block.size();
+        Some(block)
+    }
+}
+
+// The blocks of one range of ports.
+fn range(at: u32, end: u32) -> Blocks
+    requires { end ≤ 65536 }
+    ensures left { blocks_left result ≡ between at end }
+    ensures few { length (blocks_left result) ≤ end }
+{
+    Blocks {
+        first: Ports::new(at, end),
+        second: Ports::new(end, end),
+    }
+}
+
+// The blocks of the range of a port test, and for neq of the two of them.
+#[tactic(auto, using(crate::proofs::Cuts::length_between), unfolding(crate::specs::Blocks::blocks))]
 fn ranges(test: PortTest) -> Blocks
-    ensures { blocks_left result ≡ blocks test }
+    ensures left { blocks_left result ≡ blocks test }
+    ensures few { length (blocks_left result) ≤ 65536 }
 {
     match test {
-        PortTest::Any => over(0, PORTS, 0, 0),
-        PortTest::Eq(n) => over(n as u32, n as u32 + 1, 0, 0),
-        PortTest::Neq(n) => over(0, n as u32, n as u32 + 1, PORTS),
-        PortTest::Lt(n) => over(0, n as u32, 0, 0),
-        PortTest::Gt(n) => over(n as u32 + 1, PORTS, 0, 0),
-        PortTest::Range(a, b) => over(a as u32, b as u32 + 1, 0, 0),
+        PortTest::Any => range(0, PORTS),
+        PortTest::Eq(n) => range(n as u32, n as u32 + 1),
+        PortTest::Neq(n) => Blocks {
+            first: Ports::new(0, n as u32),
+            second: Ports::new(n as u32 + 1, PORTS),
+        },
+        PortTest::Lt(n) => range(0, n as u32),
+        PortTest::Gt(n) => range(n as u32 + 1, PORTS),
+        PortTest::Range(a, b) => range(a as u32, b as u32 + 1),
     }
 }
 
@@ -83,52 +105,32 @@ impl Blocks {
     // The blocks of a port test, upwards.
     pub fn of(test: PortTest) -> Blocks
         ensures left { blocks_left result ≡ blocks test }
+        ensures few { length (blocks_left result) ≤ 65536 }
         ensures stands { BlocksStand test }
     {
         ranges(test)
     }
 
     // No blocks at all.
+    #[tactic(auto, using(crate::proofs::Cuts::between_none))]
     pub(crate) fn none() -> Blocks
         ensures { blocks_left result ≡ [] }
     {
-        over(0, 0, 0, 0)
-    }
-
-    // Goes on to the next range where the current one is done.
-    fn turn(&mut self)
-        ensures same { blocks_left self.new ≡ blocks_left self.old }
-        ensures done { self.new.end ≤ self.new.at → blocks_left self.new ≡ [] }
-    {
-        if self.at >= self.end {
-            self.at = self.next;
-            self.end = self.last;
-            self.next = self.last;
-        }
-    }
-
-    // The next block, if one is left.
-    fn step(&mut self) -> Option<Block>
-        ensures { Yields block_shape (blocks_left self.old) result (blocks_left self.new) }
-    {
-        self.turn();
-        if self.at >= self.end {
-            return None;
-        }
-        let block = block_from(self.at, self.end);
-        self.at += block.size();
-        Some(block)
+        range(0, 0)
     }
 }
 
 impl Iterator for Blocks {
     type Item = Block;
 
-    ghost next_gives = { λ s r t. Yields block_shape (blocks_left s) r (blocks_left t) };
+    ghost next_gives = { YieldsFirstBy block_shape blocks_left };
 
-    ghost remaining = { λ s. at_most (length (blocks_left s)) };
+    ghost remaining = { item_count blocks_left };
 
     fn next(&mut self) -> Option<Block> {
-        self.step()
+        match self.first.next() {
+            None => self.second.next(),
+            block => block,
+        }
     }
 }

@@ -10,16 +10,13 @@ use acl::header::Header;
 use acl::terms::Protocol;
 use model::ask::Ask;
 use orders::order::Order;
+use std::array;
 
-// What is asked of a bit, by the bits that are wanted and those that are ignored.
+// What is asked of a bit: the one that is wanted, unless it is ignored.
 fn ask(wanted: Header, ignored: Header, bit: u32) -> Ask
     ensures { result ≡ ask_for (header_bit ignored bit) (header_bit wanted bit) }
 {
-    if ignored.bit(bit) {
-        Ask::Ignored
-    } else {
-        Ask::Wanted(wanted.bit(bit))
-    }
+    (!ignored.bit(bit)).then(|| wanted.bit(bit))
 }
 
 impl Piece {
@@ -61,11 +58,6 @@ impl Piece {
     {
         let wanted = self.wanted();
         let ignored = self.ignored();
-        let mut asks = [Ask::Ignored; 104];
-        for place in 0..104 {
-            let bit = order.bit_at(place) as u32;
-            asks[place] = ask(wanted, ignored, bit);
-        }
-        asks
+        array::from_fn(|place| ask(wanted, ignored, order.bit_at(place) as u32))
     }
 }

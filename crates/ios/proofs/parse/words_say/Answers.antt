@@ -1,16 +1,19 @@
-use Rattle.std.proofs.Common.{Err, sym, ap, ◌∙◌}
-use Rattle.words.specs.Cursor.{rest}
-use Rattle.ios.specs.Parsing.{body_says, list_number_of}
-use Rattle.ios.proofs.Openings.{opens_list, opens_other}
+use Rattle.std.proofs.Common.{◌≡◌, ℕ, true, List, [], ◌∷◌, codes, Option, sym, ap, ◌∙◌}
+use Rattle.std.proofs.lemmas.Bool.{false≢true}
+use Rattle.words.specs.Words.{Spanned}
+use Rattle.words.specs.Cursor.{Rest, rest, passed}
+use Rattle.ios.specs.Parsing.{next_by, says_by, body_says, list_number_of}
+use Rattle.ios.proofs.Steps.{named_is}
 use Rattle.ios.proofs.parse.words_say.Goals as goal
 
-pub returns-in-Some-2 : goal.returns-in-Some-2
-returns-in-Some-2 c =
+-- a text line whose first word is this keyword is a line of a list, for such a word opens no comment
+opens_list : (known : Option ℕ) (r : Rest) (ws : List Spanned) → next_by ws (codes "access-list") ≡ true
+    → says_by known r ws ≡ body_says (list_number_of known (passed r))
+opens_list known r [] is = absurd (false≢true is)
+opens_list known r (w ∷ ws) is = rw (named_is w.bytes (codes "access-list") is)
+
+pub returns : goal.returns
+returns c =
     c.body.ensures
     ∙ ap (λ r. body_says (list_number_of c.args.known r)) c.pass.ensures
-    ∙ sym (opens_list c.args.known (rest c.args.words.now) _ c.in-Some.word c.in-Some.ensures c.if-opens_comment.ensures c.if-is.ensures)
-
-pub returns-in-Some-3 : goal.returns-in-Some-3
-returns-in-Some-3 c =
-    ap Err c.stop.ensures
-    ∙ sym (opens_other c.args.known (rest c.args.words.now) _ c.in-Some.word c.in-Some.ensures c.if-opens_comment.ensures c.if-is.ensures)
+    ∙ sym (opens_list c.args.known (rest c.args.words.now) (rest c.args.words.now).words (sym c.if-not-next_is.ensures))

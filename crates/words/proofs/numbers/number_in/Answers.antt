@@ -1,12 +1,12 @@
-use Rattle.std.proofs.Common.{sym, refl, ◌∙◌, ⊎_elim, arith}
-use Rattle.words.proofs.Digits.{numeral_digits, bad, big, all_read, below, inside, not_digit, digits_more, read_on_at}
+use Rattle.std.proofs.Common.{get_or, sym, refl, ◌∙◌, ⊎_elim, arith}
+use Rattle.words.proofs.Digits.{numeral_some, bad, big, all_read, below, inside, same_digit, digits_more, read_on_at}
 use Rattle.words.proofs.numbers.number_in.Goals as goal
 
 pub loop-b-init : goal.loop-b-init
-loop-b-init c = (omega arith, numeral_digits c.args.word.now (omega arith) (λ z. ⊎_elim (λ p. p.1) (λ n. absurd (n z)) c.else-word-eq48.either), refl, refl)
+loop-b-init c = (omega arith, numeral_some c.args.word.now c.if-is_empty.ensures (λ z. ⊎_elim (λ p. p.1) (λ n. absurd (n z)) c.else-word-eq48.either), refl, refl)
 
-pub returns-then-b-lt48 : goal.returns-then-b-lt48
-returns-then-b-lt48 c = bad _ _ c.args.word.now c.loop-b.b-index (omega arith) c.loop-b.invariant.1 c.loop-b.invariant.2 (not_digit _ c.then-b-lt48.either)
+pub returns-then-not-is_ascii_digit : goal.returns-then-not-is_ascii_digit
+returns-then-not-is_ascii_digit c = bad _ _ c.args.word.now c.loop-b.b-index (omega arith) c.loop-b.invariant.1 c.loop-b.invariant.2 (sym (same_digit (get_or c.args.word.now c.loop-b.b-index 0)) ∙ sym c.if-not-is_ascii_digit.ensures.value)
 
 pub returns-then-n-high : goal.returns-then-n-high
 returns-then-n-high c =
@@ -16,7 +16,7 @@ pub loop-b-preserved : goal.loop-b-preserved
 loop-b-preserved c = (
   omega arith,
   c.loop-b.invariant.1,
-  digits_more c.args.word.now c.loop-b.b-index (omega arith) c.if-b-lt48.false c.if-b-gt57.false c.loop-b.invariant.2,
+  digits_more c.args.word.now c.loop-b.b-index (omega arith) (sym (same_digit (get_or c.args.word.now c.loop-b.b-index 0)) ∙ sym c.if-not-is_ascii_digit.ensures.value) c.loop-b.invariant.2,
   c.loop-b.invariant.3 ∙ read_on_at _ c.args.word.now c.loop-b.b-index (omega arith),
 )
 

@@ -1,8 +1,8 @@
-use Rattle.std.proofs.Common.{◌*◌, ◌≤◌, map, take}
+use Rattle.std.proofs.Common.{map, take}
 use Rattle.acl.specs.Shapes.{shape}
 use Rattle.writer.specs.Canon.{list_bytes}
 use Rattle.writer.specs.Pens.{Wrote}
 use Rattle.writer.proofs.lines.put_list.Given as goal
 
 abbrev pub invariant-loop-line : goal.invariant-loop-line
-invariant-loop-line l = Wrote l.initial.out 0 (list_bytes l.number l.family (map shape (take l.line-index l.lines))) l.out l.at × (l.at ≤ 277 * l.line-index)
+invariant-loop-line l = Wrote l.initial.pen (list_bytes l.list.number l.list.family (map shape (take l.line-index l.lines))) l.pen

@@ -2,7 +2,6 @@
 use Rattle.std.proofs.Common.{◌≡◌, ℕ, ◌+◌, ◌<◌, length, sym, ap, ◌∙◌, subst, arith}
 use Rattle.acl.specs.Headers.{width}
 use Rattle.model.specs.declared.node.Ref.TheVariants.{Node as At}
-use Rattle.model.specs.Diagram.{top}
 use Rattle.diagram.specs.Nodes.{Under}
 use Rattle.diagram.specs.Stores.{nodes_of}
 use Rattle.diagram.specs.Walks.{deepest}
@@ -11,32 +10,24 @@ use Rattle.diagram.proofs.Walking.{deep_code, deep_way, deep_small, top_most}
 use Rattle.diagram.proofs.Walked.{deep_noted}
 use Rattle.diagram.proofs.store.Store.+depth.Goals as goal
 
-pub returns-then-known-gt0 : goal.returns-then-known-gt0
-returns-then-known-gt0 t c =
+pub returns-in-Some-clause-small : goal.returns-in-Some-clause-small
+returns-in-Some-clause-small t c =
     let s = c.args.self.now in
-    let x = (c.requires.noted c.in-Node.i c.if-known-gt0.true).1 ∙ ap (deepest s) (sym c.in-Node.is) in
-    record {
-      noted = c.requires.noted;
-      value = x;
-      small = omega (arith, x, deep_small width (nodes_of s) c.args.r (top_most (reduced s c.requires.whole) c.args.r c.requires.under));
-    }
+    let x : c.in-Some.known ≡ deepest s c.args.r =
+    (c.requires.noted c.in-Node.i c.in-Some.known c.in-Some.is).1 ∙ ap (deepest s) (sym c.in-Node.is) in
+    omega (arith, x, deep_small width (nodes_of s) c.args.r (top_most (reduced s) c.args.r c.requires.under))
 
-pub returns-in-Code : goal.returns-in-Code
-returns-in-Code t c =
+pub returns-in-Code-clause-value : goal.returns-in-Code-clause-value
+returns-in-Code-clause-value t c =
     let s = c.args.self.now in
-    let q = c.in-Code.is in
-    record {
-      noted = c.requires.noted;
-      value = sym (ap (deepest s) q ∙ deep_code width (nodes_of s) _);
-      small = omega (arith, ap (top width (nodes_of s)) q);
-    }
+    sym (ap (deepest s) c.in-Code.is ∙ deep_code width (nodes_of s) _)
 
-pub returns-else-known-gt0 : goal.returns-else-known-gt0
-returns-else-known-gt0 t c =
+pub returns-in_default : goal.returns-in_default
+returns-in_default t c =
     let s = c.args.self.now in
     let i : ℕ = c.in-Node.i in
     let q = c.in-Node.is in
-    let red = reduced s c.requires.whole in
+    let red = reduced s in
     let l : i < s.linked = subst (Under s.linked) q c.requires.under in
     let few : i < 2048 = omega arith in
     let low : c.depth-low.result ≡ deepest s (nodes_of s i).low = c.depth-low.ensures.value in

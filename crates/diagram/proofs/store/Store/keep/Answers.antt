@@ -1,19 +1,34 @@
--- At the end each marked node has its copy. Assumes nothing.
-use Rattle.std.proofs.Common.{◌≡◌, ℕ, ◌∙◌, subst, arith}
-use Rattle.diagram.specs.Collecting.{CopiedTo, FromMarked}
+-- A marked node is copied, and at the end each has its copy. Assumes nothing.
+use Rattle.std.proofs.Common.{◌≡◌, ℕ, ◌<◌, subst, arith}
+use Rattle.diagram.specs.Collecting.{FromMarked}
+use Rattle.diagram.proofs.Copies.{kept_more, kept_skip}
 use Rattle.diagram.proofs.store.Store.keep.Goals as goal
+use Rattle.diagram.proofs.store.Store.keep.Goals.{then-marks-i+in-Some, then-marks-i+in_default, else-marks-i}
 
-pub returns : goal.returns
-returns c =
+pub loop-i-preserved : goal.loop-i-preserved
+loop-i-preserved c =
     let old = c.args.self.now in
     let s = c.loop-i.self in
     let marks = c.args.marks.now in
-    let inv = c.loop-i.invariant in
+    let i : ℕ = c.loop-i.i in
+    let k = c.loop-i.invariant in
+    let l : i < old.linked = omega arith in
+    elim c.if-marks-i.branch [
+      | then-marks-i+in-Some w ↦
+          let m = w.join.ensures in
+          rw (w.self-is, w.end-is, w.to-is)
+          (kept_more old marks c.requires.closed c.empty.new.self.cap s c.loop-i.end c.loop-i.to i l k
+          w.if-marks-i.true w.moved-low.result w.moved-high.result w.moved-low.ensures w.moved-high.ensures
+          w.join.new.self w.join.new.end w.in-Some.x m.level m.grows m.one m.new w.in-Some.ensures.value (omega (arith, old.sound.fits)))
+      | then-marks-i+in_default w ↦
+          absurd (omega (arith, k.few, k.cap_same, c.empty.ensures.cap, old.fits, w.in_default.ensures.value.full, w.in_default.ensures.none, w.join.ensures.grows.cap))
+      | else-marks-i w ↦
+          rw (w.self-is, w.end-is, w.to-is)
+          (kept_skip old marks c.requires.closed c.empty.new.self.cap s c.loop-i.end c.loop-i.to i l k w.if-marks-i.false)
+    ]
+
+pub returns-clause-only : goal.returns-clause-only
+returns-clause-only c =
+    let old = c.args.self.now in
     let e : c.loop-i.i ≡ old.linked = omega (arith, c.loop-i-test.false, c.loop-i.auto.i-end) in
-    record {
-      whole = inv.0;
-      level = inv.1;
-      cap = inv.2 ∙ c.empty.ensures.cap;
-      copied = subst (λ (n : ℕ). CopiedTo old.nodes s marks c.loop-i.to n) e inv.4;
-      only = subst (λ (n : ℕ). FromMarked old.nodes s marks n) e inv.5;
-    }
+    subst (λ (n : ℕ). FromMarked old c.loop-i.self c.args.marks.now n) e c.loop-i.invariant.only

@@ -5,8 +5,12 @@ use Rattle.diagram.proofs.Marking.{reached_start, both_closed, both_still, both_
 use Rattle.diagram.proofs.store.Store.spread.Goals as goal
 
 pub loop-i-init : goal.loop-i-init
-loop-i-init c =
-    (omega arith, λ k j l lk. absurd (omega arith), λ k m. m, c.requires.inside, reached_start c.args.self.now.nodes c.args.marks.now)
+loop-i-init c = record {
+  closed = λ k j l lk. absurd (omega arith);
+  more = λ k m. m;
+  inside = c.requires.inside;
+  reached = reached_start c.args.self.now c.args.marks.now;
+}
 
 pub loop-i-preserved-then-marks-i : goal.loop-i-preserved-then-marks-i
 loop-i-preserved-then-marks-i c =
@@ -16,15 +20,14 @@ loop-i-preserved-then-marks-i c =
     let m₁ = c.mark.new.marks in
     let m₂ = c.mark-then-marks-i.new.marks in
     let inv = c.loop-i.invariant in
-    let l : i < s.linked = omega (arith, inv.0, c.loop-i-test.true) in
+    let l : i < s.linked = omega (arith, c.loop-i-test.true) in
     let e : c.loop-i.i ≡ i + 1 = omega (arith, c.loop-i-test.true) in
-    let good = c.requires.whole.sound.good i l in
     let is = c.if-marks-i.true in
     let low = c.mark.ensures in
-    let high = c.mark-then-marks-i.ensures in (
-      omega arith,
-      both_closed s.nodes i good m₀ m₁ m₂ is low high s.linked (subst (λ (n : ℕ). ClosedFrom s.nodes s.linked m₀ n) e inv.1),
-      λ k h. both_still s.nodes i good m₀ m₁ m₂ is low high k (inv.2 k h),
-      both_inside s.nodes i good m₀ m₁ m₂ is low high s.linked l inv.3,
-      both_reached s.nodes i good m₀ m₁ m₂ is low high c.args.marks.now inv.4,
-    )
+    let high = c.mark-then-marks-i.ensures in
+    record {
+      closed = both_closed s i l m₀ m₁ m₂ is low high (subst (λ (n : ℕ). ClosedFrom s m₀ n) e inv.closed);
+      more = λ k h. both_still s i l m₀ m₁ m₂ is low high k (inv.more k h);
+      inside = both_inside s i l m₀ m₁ m₂ is low high inv.inside;
+      reached = both_reached s i l m₀ m₁ m₂ is low high c.args.marks.now inv.reached;
+    }

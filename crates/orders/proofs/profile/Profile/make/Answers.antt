@@ -1,16 +1,9 @@
 -- A profile is what the list says, or the plain order. Assumes nothing.
-use Rattle.std.proofs.Common.{ℕ, get_or, ◌∙◌, arith, rules}
-use Rattle.orders.proofs.Inverse.{filled, turned, read_low}
+use Rattle.std.proofs.Common.{get_or, ◌∙◌, rules}
+use Rattle.orders.proofs.Calls.{filled_by}
+use Rattle.orders.proofs.Inverse.{turned, read_low}
 use Rattle.orders.proofs.Once.{shortly, at_length}
 use Rattle.orders.proofs.profile.Profile.make.Goals as goal
-
-pub loop-p-preserved : goal.loop-p-preserved
-loop-p-preserved c = (search rules, filled (λ (k : ℕ). get_or c.args.list.now k 0) c.loop-p.bits c.loop-p.p (omega arith) c.loop-p.invariant.1)
-
-pub invariant_of-result : goal.invariant_of-result
-invariant_of-result c =
-    let h = c.in-Some.ensures in
-    record { sound = turned c.args.list.now c.loop-p.bits c.in-Some.places h.0 h.1 (λ p lt. c.loop-p.invariant.1 p (omega arith)) }
 
 pub returns-in_default : goal.returns-in_default
 returns-in_default c = record {
@@ -18,8 +11,18 @@ returns-in_default c = record {
   bad = λ n p lt. read_low c.plain.result.bits p lt ∙ c.plain.ensures p lt;
 }
 
+pub invariant_of-result : goal.invariant_of-result
+invariant_of-result c =
+    let xs = c.args.list.now in
+    let bits = c.from_fn-bits.result in
+    let copied = filled_by (λ i. get_or xs i 0) (λ i y q k. search rules) bits c.from_fn-bits.ensures.items in
+    record { sound = turned xs bits c.in-Some.places c.in-Some.ensures.0 c.in-Some.ensures.1 (λ p l. copied p 0 l) }
+
 pub returns : goal.returns
-returns c = record {
-  good = λ h p lt. read_low c.loop-p.bits p lt ∙ c.loop-p.invariant.1 p (omega arith);
-  bad = λ n. absurd (n (shortly c.args.list.now c.in-Some.ensures.0));
-}
+returns c =
+    let xs = c.args.list.now in
+    let bits = c.from_fn-bits.result in
+    record {
+      good = λ h p l. read_low bits p l ∙ filled_by (λ i. get_or xs i 0) (λ i y q k. search rules) bits c.from_fn-bits.ensures.items p 0 l;
+      bad = λ n. absurd (n (shortly xs c.in-Some.ensures.0));
+    }

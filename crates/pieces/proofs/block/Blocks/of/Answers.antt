@@ -1,6 +1,6 @@
--- The blocks of a test, and what they are. Assumes nothing.
+-- What the blocks of a test are. Assumes nothing.
 use Rattle.pieces.proofs.Covers.{blocks_stand}
 use Rattle.pieces.proofs.block.Blocks.of.Goals as goal
 
-pub returns : goal.returns
-returns c = record { left = c.ranges-2.ensures; stands = blocks_stand c.args.test }
+pub returns-clause-stands : goal.returns-clause-stands
+returns-clause-stands c = blocks_stand c.args.test

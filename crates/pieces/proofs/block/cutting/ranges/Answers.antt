@@ -1,29 +1,9 @@
--- A test's blocks are those of its range, or of its two ranges. Assumes nothing.
-use Rattle.std.proofs.Common.{sym, ap, ◌∙◌}
-use Rattle.pieces.specs.Blocks.{blocks}
-use Rattle.pieces.proofs.Yielding.{single}
+-- The ranges below and above a port have no more blocks than ports. Assumes nothing.
+use Rattle.std.proofs.Common.{◌+◌, length, ap, arith, length-append}
+use Rattle.pieces.proofs.Cuts.{length_between}
 use Rattle.pieces.proofs.block.cutting.ranges.Goals as goal
 
-pub returns-in-Any : goal.returns-in-Any
-unfolding blocks
-returns-in-Any c = c.over.ensures ∙ single _ _ ∙ sym (ap blocks c.in-Any.is)
-
-pub returns-in-Eq : goal.returns-in-Eq
-unfolding blocks
-returns-in-Eq c = c.over-in-Eq.ensures ∙ single _ _ ∙ sym (ap blocks c.in-Eq.is)
-
-pub returns-in-Neq : goal.returns-in-Neq
-unfolding blocks
-returns-in-Neq c = c.over-in-Neq.ensures ∙ sym (ap blocks c.in-Neq.is)
-
-pub returns-in-Lt : goal.returns-in-Lt
-unfolding blocks
-returns-in-Lt c = c.over-in-Lt.ensures ∙ single _ _ ∙ sym (ap blocks c.in-Lt.is)
-
-pub returns-in-Gt : goal.returns-in-Gt
-unfolding blocks
-returns-in-Gt c = c.over-in-Gt.ensures ∙ single _ _ ∙ sym (ap blocks c.in-Gt.is)
-
-pub returns-in-Range : goal.returns-in-Range
-unfolding blocks
-returns-in-Range c = c.over-in-Range.ensures ∙ single _ _ ∙ sym (ap blocks c.in-Range.is)
+pub returns-in-Neq-clause-few : goal.returns-in-Neq-clause-few
+returns-in-Neq-clause-few c =
+    let n = c.in-Neq.n in
+    simp length-append (omega (arith, ap length c.new.ensures, ap length c.new-in-Neq.ensures, length_between 0 n, length_between (n + 1) 65536))
