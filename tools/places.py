@@ -18,7 +18,7 @@ RULES = [
     ('1 numbers for the cases of an enum', re.compile(r'^\s*\w+::\w+ => [0-9]+,')),
     ('3 while', re.compile(r'^\s*while ')),
     ('3 for over numbers', re.compile(r'^\s*for \w+ in [^{]*\.\.')),
-    ('3 counting by hand', re.compile(r'^\s*\w+ \+= 1;|^\s*\w+ -= 1;|^\s*\w+ = \w+\.saturating_(add|sub)\(1\);')),
+    ('3 counting by hand', re.compile(r'^\s*[\w.*]+ \+= 1;|^\s*[\w.*]+ -= 1;|^\s*\w+ = \w+\.saturating_(add|sub)\(1\);')),
     ('4 conversions and comparisons as functions', re.compile(
         r'^\s*(pub(\(crate\))? )?fn (is|is_keyword|same_\w+|of|name|number|layer|numbered\w*|fault|number_or_none|to_\w+|from_\w+|action|verdict)\b')),
     ('4 a test by arms', re.compile(r'=> (true|false),?$')),

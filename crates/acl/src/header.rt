@@ -5,7 +5,7 @@ ghost use Rattle.acl.specs.Headers.{header_bit, low_bit, BitsStand};
 pub const WIDTH: usize = 104;
 
 // What a list looks at in a packet. Every five numbers of these widths are a header.
-#[derive(Clone, Copy, Debug, PartialEq, Eq)]
+#[derive(Clone, Copy, Debug, Default, PartialEq, Eq)]
 pub struct Header {
     pub source: u32,
     pub destination: u32,
@@ -23,9 +23,12 @@ fn low_bit(n: u32, k: u32) -> bool
 }
 
 impl Header {
-    // The bit, by the field that it belongs to.
-    fn field_bit(self, at: u32) -> bool
-        ensures { result ≡ header_bit self at }
+    // Bit `at` of the header: 0 is the top bit of the source, 103 the lowest bit of the
+    // destination port. There is none from 104 on, and the answer is false.
+    #[tactic(auto, using(crate::proofs::Rows::bits_stand))]
+    pub fn bit(self, at: u32) -> bool
+        ensures answer { result ≡ header_bit self at }
+        ensures stands { BitsStand }
     {
         match at {
             0..=31 => low_bit(self.source, 31 - at),
@@ -35,14 +38,5 @@ impl Header {
             88..=103 => low_bit(self.destination_port as u32, 103 - at),
             _ => false,
         }
-    }
-
-    // Bit `at` of the header: 0 is the top bit of the source, 103 the lowest bit of the
-    // destination port. There is none from 104 on, and the answer is false.
-    pub fn bit(self, at: u32) -> bool
-        ensures answer { result ≡ header_bit self at }
-        ensures stands { BitsStand }
-    {
-        self.field_bit(at)
     }
 }

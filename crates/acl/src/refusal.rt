@@ -1,41 +1,41 @@
 ghost use Rattle.std.specs.Prelude.{◌≡◌};
 ghost use Rattle.acl.specs.Refusals.{refusal_number, refusal_layer};
 
-// Why a call was refused.
+// Why a call was refused, each case with the number under which manuals list it.
 #[derive(Clone, Copy, Debug, PartialEq, Eq)]
 pub enum Refusal {
     // more than 2,048 nodes asked for
-    TooManyNodes,
+    TooManyNodes = 1,
     // not 104 numbers that hold each of 0 to 103 once
-    BadProfile,
+    BadProfile = 2,
     // a slot above 15
-    NoSlot,
+    NoSlot = 3,
     // a list is loaded into a slot that holds one
-    SlotTaken,
+    SlotTaken = 4,
     // a slot without a list
-    SlotEmpty,
+    SlotEmpty = 5,
     // more than 1,024 lines
-    TooManyLines,
+    TooManyLines = 6,
     // the table has no room for the parts
-    NoRoom,
+    NoRoom = 7,
     // an index that is not below the list's length
-    NoLine,
+    NoLine = 8,
     // line or text memory too short
-    ShortMemory,
+    ShortMemory = 9,
     // a text over 65,536 bytes, or a text line over 256
-    TooLong,
+    TooLong = 10,
     // a word missing, unknown or left over
-    BadWord,
+    BadWord = 11,
     // the word in an address's or a wildcard's place is none
-    BadAddress,
+    BadAddress = 12,
     // the word in a number's place is malformed or out of range
-    BadNumber,
+    BadNumber = 13,
     // the first port of a range is above the second
-    BackwardRange,
+    BackwardRange = 14,
     // a list number unlike the text's first
-    OtherList,
+    OtherList = 15,
     // a standard list number for a line whose protocol or destination is not any
-    NotStandard,
+    NotStandard = 16,
 }
 
 // Where a refused text is at fault: in a word, in a line, or in the list as a whole.
@@ -51,24 +51,7 @@ impl Refusal {
     pub fn number(self) -> u16
         ensures { result ≡ refusal_number self }
     {
-        match self {
-            Refusal::TooManyNodes => 1,
-            Refusal::BadProfile => 2,
-            Refusal::NoSlot => 3,
-            Refusal::SlotTaken => 4,
-            Refusal::SlotEmpty => 5,
-            Refusal::TooManyLines => 6,
-            Refusal::NoRoom => 7,
-            Refusal::NoLine => 8,
-            Refusal::ShortMemory => 9,
-            Refusal::TooLong => 10,
-            Refusal::BadWord => 11,
-            Refusal::BadAddress => 12,
-            Refusal::BadNumber => 13,
-            Refusal::BackwardRange => 14,
-            Refusal::OtherList => 15,
-            Refusal::NotStandard => 16,
-        }
+        self as u16
     }
 
     pub fn layer(self) -> Layer

@@ -7,17 +7,25 @@ use std::fmt;
 // What a line does with the headers that it fits.
 #[derive(Clone, Copy, Debug, PartialEq, Eq)]
 pub enum Action {
-    Deny,
-    Permit,
+    Deny = 0,
+    Permit = 1,
 }
 
 impl From<Action> for u16 {
     ghost from_gives = { λ action n. n ≡ action_number action };
 
     fn from(action: Action) -> u16 {
-        match action {
-            Action::Deny => 0,
-            Action::Permit => 1,
+        action as u16
+    }
+}
+
+impl Action {
+    pub fn text(self) -> &'static str
+        ensures { result.now ≡ action_text self }
+    {
+        match self {
+            Action::Deny => "deny",
+            Action::Permit => "permit",
         }
     }
 }
@@ -26,10 +34,7 @@ impl fmt::Display for Action {
     ghost output = { λ a. Some (action_text a) };
 
     fn fmt<W: fmt::Write>(&self, f: &mut fmt::Formatter<W>) -> fmt::Result {
-        match self {
-            Action::Deny => write!(f, "deny"),
-            Action::Permit => write!(f, "permit"),
-        }
+        f.write_str(self.text())
     }
 }
 

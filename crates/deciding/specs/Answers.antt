@@ -5,7 +5,7 @@ use Rattle.acl.specs.Shapes.{Shape}
 use Rattle.acl.specs.Terms.{action_text}
 use Rattle.deciding.specs.declared.answer.Answer.{Answer}
 use Rattle.deciding.specs.declared.answer.Answer.TheVariants.{Decided, Bad}
-use Rattle.deciding.specs.Counts.{Counts}
+use Rattle.deciding.specs.declared.answer.Tally.{Tally}
 
 -- a line of the output
 abbrev pub line_text : List ℕ → List ℕ
@@ -26,7 +26,7 @@ answer_text (Decided found) = verdict_text (found_shape found)
 answer_text (Bad t c) = bad_text t c
 
 -- the last line: `4 lines, 5 headers: 2 permit, 2 deny, 1 bad`
-abbrev pub summary_text : ℕ → Counts → List ℕ
+abbrev pub summary_text : ℕ → Tally → List ℕ
 summary_text k t =
     decimal k ++ (codes " lines, " ++ (decimal (t.permit + t.deny + t.bad) ++ (codes " headers: "
     ++ (decimal t.permit ++ (codes " permit, " ++ (decimal t.deny ++ (codes " deny, " ++ (decimal t.bad ++ codes " bad"))))))))

@@ -1,6 +1,5 @@
 pub mod Halves
 pub mod HeaderLines
-pub mod Counts
 pub mod Answers
 pub mod Output
 pub mod Stands

@@ -10,30 +10,30 @@ pub enum Answer {
     Bad { line: usize, column: usize },
 }
 
-// How many headers were permitted, denied and malformed. Their sum fits.
+// How many headers were permitted, denied and malformed.
 #[derive(Clone, Copy)]
 pub struct Tally {
     pub permit: usize,
     pub deny: usize,
     pub bad: usize,
-    ghost few: { permit + deny + bad < 2 ^ 64 },
 }
 
-// The last line of the output: how many lines the list has, and how the headers were answered.
+// The last line of the output: how many lines the list has, and how the headers, whose number
+// fits, were answered.
 #[derive(Clone, Copy)]
 pub struct Summary {
     pub lines: usize,
     pub tally: Tally,
+    ghost few: { tally.permit + tally.deny + tally.bad < 2 ^ 64 },
 }
 
 impl Tally {
-    ghost use Rattle.deciding.specs.Counts.{counts};
     ghost use Rattle.deciding.specs.Output.{answer_noted};
 
     // Counts one answer more; the end of a list denies.
     pub(crate) fn note(&mut self, answer: Answer)
         requires { self.old.permit + self.old.deny + self.old.bad + 1 < 2 ^ 64 }
-        ensures { counts self.new ≡ answer_noted answer (counts self.old) }
+        ensures { self.new ≡ answer_noted answer self.old }
     {
         match answer {
             Answer::Decided(found) => match found.map_or(Action::Deny, |line| line.action) {

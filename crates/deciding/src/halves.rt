@@ -1,6 +1,5 @@
 ghost use Rattle.std.specs.Prelude.{◌≡◌, ◌≤◌, true, length};
 ghost use Rattle.deciding.specs.Halves.{is_mark, mark_at, list_part, header_part};
-ghost use Rattle.deciding.specs.Stands.{ReportStands};
 
 use words::lines::TextLines;
 
@@ -33,11 +32,10 @@ fn mark(input: &[u8]) -> usize
     input.len()
 }
 
-// The list before the first text line `=`, and the headers after it. `stands` says what they are, in the subject's words.
+// The list before the first text line `=`, and the headers after it.
 pub(crate) fn cut_halves<'a>(input: &'a [u8]) -> Halves<'a>
     ensures list { result.list.now ≡ list_part input.now }
     ensures headers { result.headers.now ≡ header_part input.now }
-    ensures stands { ReportStands }
 {
     let (list, rest) = input.split_at(mark(input));
     let mut lines = TextLines::new(rest);

@@ -1,8 +1,8 @@
-ghost use Rattle.std.specs.Prelude.{◌≡◌, ◌++◌, map, IfOk, string_bytes, OnOk};
+ghost use Rattle.std.specs.Prelude.{◌≡◌, ◌+◌, ◌^◌, ◌<◌, ◌++◌, map, IfOk, string_bytes, OnOk};
 ghost use Rattle.acl.specs.Shapes.{shape};
 ghost use Rattle.words.specs.Lines.{text_lines};
 ghost use Rattle.ios.specs.Reading.{read_of, text_of};
-ghost use Rattle.deciding.specs.Counts.{Counts, counts};
+ghost use Rattle.deciding.specs.declared.answer.Tally.{Tally as TallyT};
 ghost use Rattle.deciding.specs.HeaderLines.{header_line};
 ghost use Rattle.deciding.specs.Output.{answer_by, answers_from, noted, tally_of, report_by, report_of, printed, counted};
 ghost use Rattle.deciding.specs.Stands.{ReportStands};
@@ -20,7 +20,7 @@ use words::lines::TextLines;
 // The answer to text line `line` of the header part, none where it says nothing.
 fn answer(lines: &[Line], line: usize, bytes: &[u8]) -> Option<Answer>
     ensures text { printed result ≡ answer_by (map shape lines.now) line (header_line bytes.now) }
-    ensures count { (t : Counts) → counted result t ≡ noted (map shape lines.now) (header_line bytes.now) t }
+    ensures count { (t : TallyT) → counted result t ≡ noted (map shape lines.now) (header_line bytes.now) t }
 {
     match header_line(bytes) {
         Ok(None) => None,
@@ -32,7 +32,8 @@ fn answer(lines: &[Line], line: usize, bytes: &[u8]) -> Option<Answer>
 // Prints the answers to all headers, and counts them.
 fn put_answers(out: &mut String, lines: &[Line], headers: &[u8]) -> Result<Tally, AllocError>
     ensures text { OnOk result (string_bytes out.new ≡ string_bytes out.old ++ answers_from (map shape lines.now) 1 (text_lines headers.now)) }
-    ensures count { IfOk result (λ t. counts t ≡ tally_of (map shape lines.now) (text_lines headers.now)) }
+    ensures count { IfOk result (λ t. t ≡ tally_of (map shape lines.now) (text_lines headers.now)) }
+    ensures few { IfOk result (λ t. t.permit + t.deny + t.bad < 2 ^ 64) }
 {
     let mut tally = Tally {
         permit: 0,
@@ -67,6 +68,7 @@ fn put_report(out: &mut String, list: &[u8], headers: &[u8]) -> Result<(), Alloc
 }
 
 // The whole output for an input: a list, a text line `=`, and headers. It fails only for want of memory.
+#[tactic(auto, using(crate::proofs::Standing::report_stands))]
 pub fn report(heap: Global, input: &[u8]) -> Result<String, AllocError>
     ensures output { IfOk result (λ s. string_bytes s ≡ report_of input.now) }
     ensures stands { ReportStands }

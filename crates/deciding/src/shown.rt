@@ -1,5 +1,4 @@
 ghost use Rattle.std.specs.Prelude.{Some};
-ghost use Rattle.deciding.specs.Counts.{counts};
 ghost use Rattle.deciding.specs.Answers.{answer_text, summary_text};
 
 use crate::answer::{Answer, Summary, Tally};
@@ -18,7 +17,7 @@ impl fmt::Display for Answer {
 }
 
 impl fmt::Display for Summary {
-    ghost output = { λ s. Some (summary_text s.lines (counts s.tally)) };
+    ghost output = { λ s. Some (summary_text s.lines s.tally) };
 
     fn fmt<W: fmt::Write>(&self, f: &mut fmt::Formatter<W>) -> fmt::Result {
         let lines = self.lines;

@@ -1,4 +1,4 @@
--- A store's index stays sound when a node is put at the end and when the last one is taken out. Assumes nothing.
+-- A store's index stays sound when a node is put at the end. Assumes nothing.
 use Rattle.std.proofs.Common.{◌≡◌, ℕ, ◌+◌, ◌<◌, ◌≤◌, ◌⊎◌, List, Option, Some, None, length, get_or, set, replicate, sym, refl, ap, ◌∙◌, subst, inl, inr, not-suc-le-zero, arith, get_or-set_other, get_or-set_same}
 use native.Mathlib.Decide.{ℕ_discrete}
 use lib.ListN.{get_or-replicate}
@@ -148,41 +148,6 @@ module _ (ns : List Node) (head next : List (Option ℕ)) (e b : ℕ) (n : Node)
   -- so the index with one node more is sound
   pub push_sound : Sound (set ns e n) (set head b (Some e)) (set next e (get_or head b None)) (e + 1)
   push_sound = record { fits = omega arith; good = push_good; unique = push_unique; heads = push_heads; nexts = push_nexts }
-
--- the index without the last node is sound
-pub pop_sound : (ns : List Node) (head next : List (Option ℕ)) (e b : ℕ) → Sound ns head next (e + 1) → length head ≡ 4096 → b < 4096
-    → b ≡ bucket (table_of ns e) → Sound ns (set head b (get_or next e None)) next e
-pop_sound ns head next e b s lh lb eb = record {
-  fits = omega (arith, s.fits);
-  good = λ k l. s.good k (omega arith);
-  unique = λ j k l m. s.unique j k (omega arith) (omega arith);
-  heads = heads;
-  nexts = λ i l. s.nexts i (omega arith);
-}
-  where
-    shorter : (d : ℕ) (h : Option ℕ) → (d ≡ b → ⊥) → Chained ns d (e + 1) h → Chained ns d e h
-    shorter d None p c = λ k m. c k (omega arith)
-    shorter d (Some i) p c = record {
-      within = low (below_suc e i c.within);
-      owner = c.owner;
-      all = λ k m q. c.all k (omega arith) q;
-    }
-      where
-        low : (i < e) ⊎ (i ≡ e) → i < e
-        low (inl l) = l
-        low (inr z) = absurd (p (sym c.owner ∙ ap (λ j. bucket (table_of ns j)) z ∙ sym eb))
-
-    heads : (d : ℕ) → d < 4096 → Chained ns d e (get_or (set head b (get_or next e None)) d None)
-    heads d l = go (ℕ_discrete d b)
-      where
-        go : Dec (d ≡ b) → Chained ns d e (get_or (set head b (get_or next e None)) d None)
-        go (yes p) =
-            subst (λ (x : ℕ). Chained ns x e (get_or (set head b (get_or next e None)) x None)) (sym p)
-            (subst (λ (x : Option ℕ). Chained ns b e x) (sym (get_or-set_same head b (get_or next e None) None (omega arith)))
-            (subst (λ (x : ℕ). Chained ns x e (get_or next e None)) (sym eb) (s.nexts e (omega arith))))
-        go (no p) =
-            subst (λ (x : Option ℕ). Chained ns d e x) (sym (get_or-set_other head b d (get_or next e None) None p))
-            (shorter d (get_or head d None) p (s.heads d l))
 
 -- What is left to look at in the chain of n's bucket: no node after i is n, and no node at all where nothing is left.
 abbrev pub Left : List Node → ℕ → Node → Option ℕ → Type 0

@@ -1,5 +1,6 @@
 ghost use Rattle.diagram.specs.Cubes.{Onward, Inside, Quiet};
 
+use acl::header::WIDTH;
 use model::ask::Ask;
 
 pub mod making;
@@ -8,8 +9,8 @@ pub mod making;
 // one on at which it asks something, and the code that its headers get.
 #[derive(Clone, Copy)]
 pub struct Cube {
-    pub(crate) asks: [Ask; 104],
-    pub(crate) next: [u8; 104],
+    pub(crate) asks: [Ask; WIDTH],
+    pub(crate) next: [u8; WIDTH],
     pub(crate) code: u16,
     ghost onward: { Onward next },
     ghost inside: { Inside next },

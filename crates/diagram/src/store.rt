@@ -2,6 +2,7 @@ ghost use Rattle.std.specs.Prelude.{◌≤◌};
 ghost use Rattle.diagram.specs.Nodes.{Sound};
 ghost use Rattle.diagram.specs.Props.{Sound-prop};
 
+use acl::header::WIDTH;
 use model::node::{Node, Ref};
 
 pub mod collecting;
@@ -10,14 +11,17 @@ pub mod laying;
 pub mod noting;
 pub mod walking;
 
+// How many nodes a store has room for.
+pub(crate) const NODES: usize = 2048;
+
 // The nodes, and an index by which a node is found again: the last node of each bucket, and of
 // each node the one before it in its bucket. The index has the first `linked` nodes; there are at
 // most `cap`.
 #[derive(Drop)]
 pub struct Store {
-    pub(crate) nodes: [Node; 2048],
+    pub(crate) nodes: [Node; NODES],
     pub(crate) head: [Option<u16>; 4096],
-    pub(crate) next: [Option<u16>; 2048],
+    pub(crate) next: [Option<u16>; NODES],
     pub(crate) linked: usize,
     pub(crate) cap: usize,
     ghost sound: { Sound nodes head next linked } by { Sound-prop nodes head next linked },
@@ -36,6 +40,6 @@ pub struct Past {
 // does not test it. Each is made once and then found here.
 #[derive(Drop)]
 pub struct Notes {
-    pub(crate) made: [Option<Ref>; 2048],
-    pub(crate) past: [Option<Past>; 104],
+    pub(crate) made: [Option<Ref>; NODES],
+    pub(crate) past: [Option<Past>; WIDTH],
 }

@@ -23,6 +23,7 @@ fn decide(text: &[u8], header: Header) -> Result<Action, Refusal>
 
 // The entry for C: 0 where the list in the text denies the header, 1 where it permits it, and 256 + the
 // refusal's number where the text is refused; 256 + 9 never comes.
+#[tactic(auto, using(crate::proofs::Rooms::roomy))]
 #[unsafe(no_mangle)]
 pub extern "C" fn miltroueg_decide(
     text: &[u8],

@@ -6,7 +6,7 @@ use Rattle.words.specs.declared.part.Word.{Word}
 use Rattle.words.specs.Words.{Spanned}
 use Rattle.words.specs.Cursor.{word_shown}
 use Rattle.ios.specs.declared.entry.Entry.{Entry}
-use Rattle.ios.specs.declared.ports.Ports.{Ports}
+use Rattle.ios.specs.declared.ports.SidePorts.{SidePorts}
 use Rattle.ios.specs.declared.said.Said.{Said as CodeSaid}
 use Rattle.ios.specs.Entries.{EntryShape, entry_shape}
 use Rattle.ios.specs.Parsing.{Said, said}
@@ -17,7 +17,7 @@ shown_ok (Ok w) = Ok (word_shown w)
 shown_ok (Err s) = Err s
 
 -- a port test that a function gave, or its stop
-abbrev pub ports_ok : Result Ports Stop → Result PortTest Stop
+abbrev pub ports_ok : Result SidePorts Stop → Result PortTest Stop
 ports_ok (Ok p) = Ok p.test
 ports_ok (Err s) = Err s
 

@@ -1,6 +1,7 @@
-ghost use Rattle.std.specs.Prelude.{◌≡◌, ok_or};
+ghost use Rattle.std.specs.Prelude.{◌≡◌, ok_or, option_map};
 ghost use Rattle.acl.specs.declared.refusal.Refusal.TheVariants.{BadNumber};
-ghost use Rattle.ios.specs.Parsing.{family_of};
+ghost use Rattle.ios.specs.Entries.{network};
+ghost use Rattle.ios.specs.Parsing.{family_of, list_number};
 
 use acl::refusal::Refusal;
 
@@ -25,6 +26,18 @@ pub struct Network {
     pub wildcard: u32,
 }
 
+impl Network {
+    // One address alone.
+    pub(crate) fn host(address: u32) -> Network
+        ensures { result ≡ network address 0 }
+    {
+        Network {
+            address,
+            wildcard: 0,
+        }
+    }
+}
+
 // The form of a list's lines, told by the range in which its number lies.
 impl TryFrom<u16> for Family {
     type Error = Refusal;
@@ -37,5 +50,17 @@ impl TryFrom<u16> for Family {
             100..=199 | 2000..=2699 => Ok(Family::Extended),
             _ => Err(Refusal::BadNumber),
         }
+    }
+}
+
+// A list's number with the form of its lines, where the number is one of a list.
+impl TryFrom<u16> for ListNumber {
+    type Error = Refusal;
+
+    ghost try_from_gives = { λ number r. r ≡ ok_or (option_map (list_number number) (family_of number)) BadNumber };
+
+    fn try_from(number: u16) -> Result<ListNumber, Refusal> {
+        let family = Family::try_from(number)?;
+        Ok(ListNumber { number, family })
     }
 }

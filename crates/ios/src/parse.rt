@@ -6,10 +6,10 @@ ghost use Rattle.ios.specs.Shown.{entry_ok, said_ok};
 
 use crate::entry::Entry;
 use crate::family::{Family, ListNumber, Network};
-use crate::ports::Ports;
+use crate::ports::SidePorts;
 use crate::said::Said;
 use crate::sides::{addresses, ports, side};
-use crate::terms::{action, list_number, log, next_is, protocol};
+use crate::terms::{action, list_number, log, next_is, protocol, takes};
 use acl::refusal::Refusal;
 use acl::side::Side;
 use acl::terms::{Action, Protocol};
@@ -24,7 +24,7 @@ fn standard_entry(action: Action, source: Network, log: bool) -> Entry
         action,
         protocol: Protocol::Any,
         log,
-        source: side(source, Ports::ANY),
+        source: side(source, SidePorts::ANY),
         destination: Side::any(),
     }
 }
@@ -74,16 +74,14 @@ fn body(words: &mut Words<'_>, known: Option<u16>) -> Result<Said, Stop>
     ensures { said_ok result ≡ body_says (list_number_of known (rest words.old)) }
 {
     let ListNumber { number, family } = list_number(words, known)?;
-    if next_is(words, b"remark") {
-        return Ok(Said {
-            known: Some(number),
-            entry: None,
-        });
-    }
-    let entry = entry(words, family)?;
+    let entry = if next_is(words, b"remark") {
+        None
+    } else {
+        Some(entry(words, family)?)
+    };
     Ok(Said {
         known: Some(number),
-        entry: Some(entry),
+        entry,
     })
 }
 
@@ -94,10 +92,9 @@ fn words_say(words: &mut Words<'_>, known: Option<u16>) -> Result<Said, Stop>
     if words.peek().is_none_or(|word| word.opens_comment()) {
         return Ok(Said { known, entry: None });
     }
-    if !next_is(words, b"access-list") {
+    if !takes(words, b"access-list") {
         return Err(words.stop(Refusal::BadWord));
     }
-    words.pass();
     body(words, known)
 }
 

@@ -5,13 +5,13 @@ use acl::terms::PortTest;
 
 // A port test as a side takes it: a range never runs backward.
 #[derive(Clone, Copy)]
-pub(crate) struct Ports {
+pub(crate) struct SidePorts {
     pub test: PortTest,
     ghost forward: { ordered test ≡ true },
 }
 
-impl Ports {
-    pub(crate) const ANY: Ports = Ports {
+impl SidePorts {
+    pub(crate) const ANY: SidePorts = SidePorts {
         test: PortTest::Any,
     };
 }

@@ -44,10 +44,13 @@ fn fill(text: &[u8], memory: &mut [Line])
     }
 }
 
-// Reads a list into line memory, by the definitions alone.
-fn read_text(text: &[u8], memory: &mut [Line]) -> Result<Reading, Fault>
+// Reads a list into line memory: its lines, numbered from 1, over the front of the memory.
+// A refused text leaves the memory as it was. What is read is just what the grammar has.
+#[tactic(auto, using(crate::proofs::Whole::reading_stands))]
+pub fn read(text: &[u8], memory: &mut [Line]) -> Result<Reading, Fault>
     ensures answer { result ≡ read_of text.now (length memory.old) }
     ensures written { map shape memory.new ≡ memory_after result text.now (map shape memory.old) }
+    ensures stands { ReadingStands }
 {
     if text.len() > MOST_BYTES {
         return Err(Refusal::TooLong.into());
@@ -58,14 +61,4 @@ fn read_text(text: &[u8], memory: &mut [Line]) -> Result<Reading, Fault>
     }
     fill(text, memory);
     Ok(reading)
-}
-
-// Reads a list into line memory: its lines, numbered from 1, over the front of the memory.
-// A refused text leaves the memory as it was. What is read is just what the grammar has.
-pub fn read(text: &[u8], memory: &mut [Line]) -> Result<Reading, Fault>
-    ensures answer { result ≡ read_of text.now (length memory.old) }
-    ensures written { map shape memory.new ≡ memory_after result text.now (map shape memory.old) }
-    ensures stands { ReadingStands }
-{
-    read_text(text, memory)
 }

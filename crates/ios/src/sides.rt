@@ -7,8 +7,8 @@ ghost use Rattle.ios.specs.Parsing.{host_of, wildcard_of, closed_by, addresses_o
 ghost use Rattle.ios.specs.Shown.{ports_ok};
 
 use crate::family::{Family, Network};
-use crate::ports::Ports;
-use crate::terms::next_is;
+use crate::ports::SidePorts;
+use crate::terms::takes;
 use acl::refusal::Refusal;
 use acl::side::Side;
 use acl::terms::{PortTest, Protocol};
@@ -24,11 +24,7 @@ const EVERYWHERE: Network = Network {
 fn host(words: &mut Words<'_>) -> Result<Network, Stop>
     ensures { handed result (rest words.new) ≡ host_of (rest words.old) }
 {
-    let address = words.address()?;
-    Ok(Network {
-        address,
-        wildcard: 0,
-    })
+    Ok(Network::host(words.address()?))
 }
 
 // The wildcard after an address.
@@ -50,20 +46,15 @@ fn closed(words: &Words<'_>) -> bool
 pub(crate) fn addresses(words: &mut Words<'_>, family: Family) -> Result<Network, Stop>
     ensures { handed result (rest words.new) ≡ addresses_of family (rest words.old) }
 {
-    if next_is(words, b"any") {
-        words.pass();
+    if takes(words, b"any") {
         return Ok(EVERYWHERE);
     }
-    if next_is(words, b"host") {
-        words.pass();
+    if takes(words, b"host") {
         return host(words);
     }
     let address = words.address()?;
     match family {
-        Family::Standard if closed(words) => Ok(Network {
-            address,
-            wildcard: 0,
-        }),
+        Family::Standard if closed(words) => Ok(Network::host(address)),
         _ => wildcard(words, address),
     }
 }
@@ -77,7 +68,7 @@ fn port(words: &mut Words<'_>) -> Result<u16, Stop>
 }
 
 // The two ports after `range`, of which the first may not be above the second.
-fn range(words: &mut Words<'_>) -> Result<Ports, Stop>
+fn range(words: &mut Words<'_>) -> Result<SidePorts, Stop>
     ensures { handed (ports_ok result) (rest words.new) ≡ range_of (passed (rest words.old)) }
 {
     let first = port(words)?;
@@ -89,30 +80,30 @@ fn range(words: &mut Words<'_>) -> Result<Ports, Stop>
             column,
         });
     }
-    Ok(Ports {
+    Ok(SidePorts {
         test: PortTest::Range(first, last),
     })
 }
 
 // A port test, or nothing.
-fn test(words: &mut Words<'_>) -> Result<Ports, Stop>
+fn test(words: &mut Words<'_>) -> Result<SidePorts, Stop>
     ensures { handed (ports_ok result) (rest words.new) ≡ test_of (rest words.old) }
 {
     match words.peek() {
-        Some(word) if word.is(b"eq") => Ok(Ports {
+        Some(word) if word.is(b"eq") => Ok(SidePorts {
             test: PortTest::Eq(port(words)?),
         }),
-        Some(word) if word.is(b"neq") => Ok(Ports {
+        Some(word) if word.is(b"neq") => Ok(SidePorts {
             test: PortTest::Neq(port(words)?),
         }),
-        Some(word) if word.is(b"lt") => Ok(Ports {
+        Some(word) if word.is(b"lt") => Ok(SidePorts {
             test: PortTest::Lt(port(words)?),
         }),
-        Some(word) if word.is(b"gt") => Ok(Ports {
+        Some(word) if word.is(b"gt") => Ok(SidePorts {
             test: PortTest::Gt(port(words)?),
         }),
         Some(word) if word.is(b"range") => range(words),
-        _ => Ok(Ports::ANY),
+        _ => Ok(SidePorts::ANY),
     }
 }
 
@@ -123,18 +114,18 @@ fn takes_ports(protocol: Protocol) -> bool
 }
 
 // The port test of a side, which only TCP and UDP take.
-pub(crate) fn ports(words: &mut Words<'_>, protocol: Protocol) -> Result<Ports, Stop>
+pub(crate) fn ports(words: &mut Words<'_>, protocol: Protocol) -> Result<SidePorts, Stop>
     ensures value { handed (ports_ok result) (rest words.new) ≡ ports_of protocol (rest words.old) }
     ensures allowed { IfOk result (λ p. ports_allowed protocol p.test ≡ true) }
 {
     if !takes_ports(protocol) {
-        return Ok(Ports::ANY);
+        return Ok(SidePorts::ANY);
     }
     test(words)
 }
 
 // A side of a line, with the address bits under the wildcard cleared.
-pub(crate) fn side(network: Network, ports: Ports) -> Side
+pub(crate) fn side(network: Network, ports: SidePorts) -> Side
     ensures { side_shape result ≡ side_of network ports.test }
 {
     let Network { address, wildcard } = network;

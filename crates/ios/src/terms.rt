@@ -1,9 +1,10 @@
-ghost use Rattle.std.specs.Prelude.{◌≡◌, Ok};
-ghost use Rattle.words.specs.Cursor.{rest, handed, word_shown, expect_of};
+ghost use Rattle.std.specs.Prelude.{◌≡◌, cond, Ok};
+ghost use Rattle.acl.specs.declared.refusal.Refusal.TheVariants.{BadWord};
+ghost use Rattle.words.specs.Cursor.{rest, passed, handed, word_shown, stop, expect_of};
 ghost use Rattle.ios.specs.Parsing.{next_is, action_named, action_of, protocol_named, protocol_of, list_number_of, log_of, next_digit};
 ghost use Rattle.ios.specs.Shown.{shown_ok};
 
-use crate::family::{Family, ListNumber};
+use crate::family::ListNumber;
 use acl::refusal::Refusal;
 use acl::terms::{Action, Protocol};
 use words::part::{Stop, Word};
@@ -16,6 +17,18 @@ pub(crate) fn next_is(words: &Words<'_>, keyword: &[u8]) -> bool
     words.peek().is_some_and(|word| word.is(keyword))
 }
 
+// Whether the next word is the keyword; if it is, goes past it.
+pub(crate) fn takes(words: &mut Words<'_>, keyword: &[u8]) -> bool
+    ensures found { result ≡ next_is (rest words.old) keyword.now }
+    ensures left { rest words.new ≡ cond result (passed (rest words.old)) (rest words.old) }
+{
+    let found = next_is(words, keyword);
+    if found {
+        words.pass();
+    }
+    found
+}
+
 // The next word, where one has to stand.
 fn expect<'a>(words: &mut Words<'a>) -> Result<Word<'a>, Stop>
     ensures { handed (shown_ok result) (rest words.new) ≡ expect_of (rest words.old) }
@@ -25,6 +38,16 @@ fn expect<'a>(words: &mut Words<'a>) -> Result<Word<'a>, Stop>
     };
     words.pass();
     Ok(word)
+}
+
+// A refusal at a word that names nothing known here.
+fn refuse(word: Word<'_>) -> Stop
+    ensures { result ≡ stop BadWord (word_shown word.entry).column }
+{
+    Stop {
+        refusal: Refusal::BadWord,
+        column: word.part().column,
+    }
 }
 
 fn action_named(word: Word<'_>) -> Option<Action>
@@ -42,10 +65,7 @@ pub(crate) fn action(words: &mut Words<'_>) -> Result<Action, Stop>
     ensures { handed result (rest words.new) ≡ action_of (rest words.old) }
 {
     let word = expect(words)?;
-    action_named(word).ok_or(Stop {
-        refusal: Refusal::BadWord,
-        column: word.part().column,
-    })
+    action_named(word).ok_or(refuse(word))
 }
 
 fn protocol_named(word: Word<'_>) -> Option<Protocol>
@@ -77,21 +97,14 @@ pub(crate) fn protocol(words: &mut Words<'_>) -> Result<Protocol, Stop>
         return Ok(Protocol::Number(n as u8));
     }
     let word = expect(words)?;
-    protocol_named(word).ok_or(Stop {
-        refusal: Refusal::BadWord,
-        column: word.part().column,
-    })
+    protocol_named(word).ok_or(refuse(word))
 }
 
 // `log`, or nothing
 pub(crate) fn log(words: &mut Words<'_>) -> bool
     ensures { handed (Ok result) (rest words.new) ≡ log_of (rest words.old) }
 {
-    let found = next_is(words, b"log");
-    if found {
-        words.pass();
-    }
-    found
+    takes(words, b"log")
 }
 
 // The list number, which has to be the one that stood before, if one did.
@@ -100,12 +113,12 @@ pub(crate) fn list_number(words: &mut Words<'_>, known: Option<u16>) -> Result<L
 {
     let column = words.place();
     let number = words.number(1, 2699)?;
-    let family = Family::try_from(number).map_err(|refusal| Stop { refusal, column })?;
+    let list = ListNumber::try_from(number).map_err(|refusal| Stop { refusal, column })?;
     if known.is_some_and(|known| known != number) {
         return Err(Stop {
             refusal: Refusal::OtherList,
             column,
         });
     }
-    Ok(ListNumber { number, family })
+    Ok(list)
 }

@@ -1,7 +1,7 @@
+use crate::common::{first_line, read_good};
 use acl::line::Line;
 use acl::refusal::Refusal;
 use ios::outcome::Reading;
-use ios::read::read;
 use std::process::Abort;
 use std::test::Fail;
 use writer::write::write;
@@ -15,9 +15,7 @@ const LINE_65: &[u8] = b"access-list 100 permit tcp any host 100.100.100.100 eq 
 fn writes(rt: &impl Abort, text: &str, canonical: &str) -> Result<(), Fail> {
     let mut memory = [Line::blank(); 4];
     let mut out = [b'~'; 512];
-    let Ok(Reading { number, count }) = read(text.as_bytes(), &mut memory) else {
-        return Err(Fail::new("the text is refused"));
-    };
+    let Reading { number, count } = read_good(text.as_bytes(), &mut memory)?;
     assert!(rt; count <= 4);
     assert_eq!(rt;
         write(&memory[0..count], number, &mut out),
@@ -135,20 +133,20 @@ fn ports(rt: HostRuntime) -> Result<(), Fail> {
 }
 
 #[test]
-fn refusals(rt: HostRuntime) {
+fn refusals(rt: HostRuntime) -> Result<(), Fail> {
     let mut out = [b'~'; 64];
     let none: [Line; 0] = [];
     assert_eq!(rt; write(&none, 0, &mut out), Err(Refusal::BadNumber));
     assert_eq!(rt; write(&none, 1, &mut out), Ok(0));
     assert_eq!(rt; write(&none, 200, &mut out), Err(Refusal::BadNumber));
     assert_eq!(rt; write(&none, 2700, &mut out), Err(Refusal::BadNumber));
-    let mut memory = [Line::blank(); 1];
-    assert!(rt; read(b"access-list 100 permit ip any host 1.2.3.4", &mut memory).is_ok());
-    assert_eq!(rt; write(&memory, 1, &mut out), Err(Refusal::NotStandard));
-    assert!(rt; read(b"access-list 100 permit 0 any any", &mut memory).is_ok());
-    assert_eq!(rt; write(&memory, 99, &mut out), Err(Refusal::NotStandard));
-    assert_eq!(rt; write(&memory, 300, &mut out), Err(Refusal::BadNumber));
+    let one_host = [first_line(b"access-list 100 permit ip any host 1.2.3.4")?];
+    assert_eq!(rt; write(&one_host, 1, &mut out), Err(Refusal::NotStandard));
+    let protocol_0 = [first_line(b"access-list 100 permit 0 any any")?];
+    assert_eq!(rt; write(&protocol_0, 99, &mut out), Err(Refusal::NotStandard));
+    assert_eq!(rt; write(&protocol_0, 300, &mut out), Err(Refusal::BadNumber));
     assert_eq!(rt; out[0], b'~');
+    Ok(())
 }
 
 // Memory that is exactly long enough, and one byte short of it.
@@ -178,13 +176,10 @@ fn line_count(rt: HostRuntime) -> Result<(), Fail> {
 // A text of 65,536 bytes is written, and one of 65,537 is not, though memory has a place for it.
 #[test]
 fn text_length(rt: HostRuntime) -> Result<(), Fail> {
-    let mut memory = [Line::blank(); 1];
-    assert!(rt; read(LINE_64, &mut memory).is_ok());
-    let mut lines = [memory[0]; 1024];
+    let mut lines = [first_line(LINE_64)?; 1024];
     let mut out = vec![in rt.alloc(); b'~'; 65537]?;
     assert_eq!(rt; write(&lines, 100, &mut out), Ok(65536));
-    assert!(rt; read(LINE_65, &mut memory).is_ok());
-    lines[1023] = memory[0];
+    lines[1023] = first_line(LINE_65)?;
     assert_eq!(rt; write(&lines, 100, &mut out), Err(Refusal::TooLong));
     Ok(())
 }

@@ -1,5 +1,5 @@
 // The mathematics of stages, parts and diagrams: no engine code, but the theorems that the
-// engine's proof rests on, and what a piece asks of a bit.
+// engine's proof rests on, what a piece asks of a bit, and the nodes and references of a diagram.
 #![tactic(auto)]
 
 ghost use Rattle.model.specs.Rulings.{Ruling};

@@ -1,9 +1,7 @@
 -- A piece turned to places by an order holds exactly its headers. Assumes nothing.
-use Rattle.std.proofs.Common.{◌≡◌, ℕ, zero, suc, ◌+◌, ◌-◌, ◌%◌, ◌^◌, ◌<◌, ◌≤◌, true, ◌&&◌, List, None, get_or, sym, refl, ap, subst, ◌∙◌, ap₂, arith, pow_pos}
+use Rattle.std.proofs.Common.{◌≡◌, ℕ, zero, suc, ◌+◌, ◌-◌, ◌%◌, ◌^◌, ◌<◌, ◌≤◌, true, ◌&&◌, List, None, get_or, sym, refl, ap, ◌∙◌, ap₂, arith, pow_pos}
 use native.Mathlib.Decide.{dec_lt}
 use Rattle.std.proofs.lemmas.Bool.{and_parts, and_from}
-use denote.Param.Members.{Mut, Called}
-use Rattle.std.specs.Array.{IsFromFnResultFrom, IsFromFnResult}
 use Rattle.acl.specs.Bits.{alike}
 use Rattle.acl.specs.Headers.{header_bit, wide, width}
 use Rattle.acl.specs.Terms.{protocol_narrow, protocol_fits}
@@ -163,22 +161,3 @@ turned o law p s asks each = record {
   headers = headers_turned o law p s (λ q. get_or asks q None) each;
   rows = rows_turned o law p s (λ q. get_or asks q None) each;
 }
-
--- a closure that each call leaves as it was, and which computes h: what its calls gave
-module _ {F B : Type 0} {g : Mut F (ℕ × Unit {0}) B} {f : F} (h : ℕ → B) (computes : (x : ℕ) (y : B) (q : F) → Called g f (x, tt) y q → (q ≡ f) × (y ≡ h x)) where
-  -- at n places from i on
-  gives_from : (n i : ℕ) (ys : List B) → IsFromFnResultFrom g f ys i n → (k : ℕ) (d : B) → i ≤ k → k < i + n → get_or ys k d ≡ h k
-  gives_from zero i ys made k d a l = absurd (omega arith)
-  gives_from (suc n) i ys made k d a l =
-      let first = computes i made.1 made.0 made.3 in
-      go (dec_lt i k) (gives_from n (i + 1) ys (subst (λ p. IsFromFnResultFrom g p ys (i + 1) n) first.0 made.4) k d)
-      (made.2.1 d ∙ first.1)
-    where
-      go : Dec (i < k) → (i + 1 ≤ k → k < i + 1 + n → get_or ys k d ≡ h k) → get_or ys i d ≡ h i → get_or ys k d ≡ h k
-      go (yes m) later here = later (omega arith) (omega arith)
-      go (no m) later here = let same : k ≡ i = omega arith in rw same here
-
--- an array of what such a closure gives has h at each place
-pub from_fn_gives : {F B : Type 0} {g : Mut F (ℕ × Unit {0}) B} {f : F} {ys : List B} {n : ℕ} (h : ℕ → B) → IsFromFnResult g f ys n
-    → ((x : ℕ) (y : B) (q : F) → Called g f (x, tt) y q → (q ≡ f) × (y ≡ h x)) → (k : ℕ) (d : B) → k < n → get_or ys k d ≡ h k
-from_fn_gives {ys = ys} {n = n} h made computes k d l = gives_from h computes n 0 ys made.each k d (omega arith) (omega arith)

@@ -1,7 +1,7 @@
+use crate::common::{first_line, first_piece, read_good};
 use acl::header::Header;
 use acl::line::Line;
 use acl::terms::PortTest;
-use ios::read::read;
 use kinds::bare::Bare;
 use kinds::heard::Heard;
 use kinds::kind::Kind;
@@ -70,21 +70,15 @@ fn blocks_counted(rt: HostRuntime) {
     }
 }
 
-// The first line of a text; the blank line where it is refused.
-fn line(text: &[u8]) -> Line {
-    let mut memory = [Line::blank(); 1];
-    let _ = read(text, &mut memory);
-    memory[0]
-}
-
 #[test]
-fn pieces_in_sequence(rt: HostRuntime) {
-    let two = line(b"access-list 100 permit tcp any range 23 27 any lt 3");
+fn pieces_in_sequence(rt: HostRuntime) -> Result<(), Fail> {
+    let two = first_line(b"access-list 100 permit tcp any range 23 27 any lt 3")?;
     let starts = Pieces::of(two).map(|piece| (piece.from.start, piece.to.start));
     assert!(rt; starts.eq([(23, 0), (23, 2), (24, 0), (24, 2)]));
-    let none = line(b"access-list 100 permit udp any neq 5 any lt 0");
+    let none = first_line(b"access-list 100 permit udp any neq 5 any lt 0")?;
     assert!(rt; Pieces::of(none).next().is_none());
     assert!(rt; Pieces::of(Line::blank()).next().is_some());
+    Ok(())
 }
 
 // Whether these asks stand at these places.
@@ -97,9 +91,7 @@ fn asked(asks: &[Ask], table: &[(usize, Ask)]) -> bool {
 #[test]
 fn asks_by_place(rt: HostRuntime) -> Result<(), Fail> {
     let text = b"access-list 100 deny tcp host 128.0.0.1 gt 65533 0.0.0.0 127.255.255.255 eq 3";
-    let Some(piece) = Pieces::of(line(text)).next() else {
-        return Err(Fail::new("a piece is missing"));
-    };
+    let piece = first_piece(text)?;
     let plain = [
         (0, Some(true)),
         (1, Some(false)),
@@ -132,16 +124,13 @@ fn bits_asked_for(rt: HostRuntime) {
 }
 
 #[test]
-fn codes(rt: HostRuntime) {
+fn codes(rt: HostRuntime) -> Result<(), Fail> {
     let text = b"access-list 1 deny 10.0.0.1\naccess-list 1 permit 10.0.0.0 0.0.0.255\n";
     let mut memory = [Line::blank(); 2];
-    let _ = read(text, &mut memory);
+    read_good(text, &mut memory)?;
     let header = Header {
         source: 0x0a00_0001,
-        destination: 0,
-        protocol: 0,
-        source_port: 0,
-        destination_port: 0,
+        ..Header::default()
     };
     for (source, bare, numbered) in [
         (0x0a00_0001, 0, 2),
@@ -156,4 +145,5 @@ fn codes(rt: HostRuntime) {
     let blank = Heard::from(Line::blank());
     assert_eq!(rt; Numbered.code(Numbered.of_line(blank)), 3);
     assert_eq!(rt; Bare.code(Bare.of_line(blank)), 1);
+    Ok(())
 }

@@ -1,21 +1,14 @@
+use crate::common::first_piece;
 use acl::header::Header;
-use acl::line::Line;
 use diagram::cube::Cube;
 use diagram::table::{Denied, Table};
-use ios::read::read;
 use model::node::Ref;
 use orders::fixed::Plain;
-use pieces::piece::Pieces;
 use std::test::Fail;
 
-// The line of a text as one piece that permits; a text that is refused gives the blank line's.
+// The first piece of a text, which permits.
 fn piece(text: &[u8]) -> Result<Cube, Fail> {
-    let mut memory = [Line::blank(); 1];
-    let _ = read(text, &mut memory);
-    let piece = Pieces::of(memory[0])
-        .next()
-        .ok_or_else(|| Fail::new("a piece is missing"))?;
-    Ok(Cube::new(piece.asks(&Plain), 1))
+    Ok(Cube::new(first_piece(text)?.asks(&Plain), 1))
 }
 
 const TEN: &[u8] = b"access-list 10 permit 10.0.0.0 0.255.255.255";
@@ -59,10 +52,7 @@ fn bits(header: Header) -> [bool; 104] {
 fn from(source: u32) -> [bool; 104] {
     bits(Header {
         source,
-        destination: 0,
-        protocol: 0,
-        source_port: 0,
-        destination_port: 0,
+        ..Header::default()
     })
 }
 

@@ -1,6 +1,8 @@
-// Tests of orders, kinds, blocks and pieces against tables.
+// Tests of orders, kinds, blocks, pieces and the node table against tables.
 #![tactic(auto)]
 
+#[cfg(test)]
+mod common;
 #[cfg(test)]
 mod cutting;
 #[cfg(test)]

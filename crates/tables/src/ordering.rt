@@ -78,13 +78,7 @@ fn no_profiles(rt: HostRuntime) {
 
 #[test]
 fn before(rt: HostRuntime) {
-    let zero = Header {
-        source: 0,
-        destination: 0,
-        protocol: 0,
-        source_port: 0,
-        destination_port: 0,
-    };
+    let zero = Header::default();
     let source = Header { source: 1, ..zero };
     let destination = Header {
         destination: 0x8000_0000,

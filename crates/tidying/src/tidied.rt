@@ -31,6 +31,7 @@ fn canonical(heap: Global, lines: &[Line], number: u16) -> Result<Vec<u8>, Alloc
 }
 
 // The whole output for an input: its list in canonical form, or its refusal. A list without lines gives nothing.
+#[tactic(auto, using(crate::proofs::Standing::tidied_stands))]
 pub fn tidied(heap: Global, input: &[u8]) -> Result<Vec<u8>, AllocError>
     ensures output { IfOk result (λ v. v.items ≡ tidied_of input.now) }
     ensures stands { TidiedStands }

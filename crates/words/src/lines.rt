@@ -43,7 +43,8 @@ impl<'a> TextLines<'a> {
     pub fn rest(&self) -> &'a [u8]
         ensures { result.now ≡ left self.now }
     {
-        self.rest
+        let TextLines { rest } = *self;
+        rest
     }
 }
 

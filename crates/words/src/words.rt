@@ -55,7 +55,7 @@ fn has_dot(bytes: &[u8]) -> bool
 }
 
 // A part as the word that its bytes make it.
-fn sorted<'a>(part: Part<'a>) -> Word<'a>
+fn word_of<'a>(part: Part<'a>) -> Word<'a>
     requires { 0 < length part.bytes.now }
     ensures same { word_part result ≡ part.entry }
     ensures sort { well_sorted result ≡ true }
@@ -104,7 +104,7 @@ impl<'a> Words<'a> {
     pub fn peek(&self) -> Option<Word<'a>>
         ensures { Peeks (rest self.now).words result }
     {
-        Some(sorted(next_part(self.line, self.at)?))
+        Some(word_of(next_part(self.line, self.at)?))
     }
 
     // Goes past the next word, if there is one.

@@ -1,6 +1,5 @@
 pub mod Overs
 pub mod Turns
-pub mod Outcomes
 pub mod Plain
 pub mod Forms
 pub mod Back

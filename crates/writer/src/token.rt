@@ -66,9 +66,6 @@ impl Token for Action {
     ghost text = { action_word };
 
     fn put(self, pen: &mut Pen<'_>) {
-        match self {
-            Action::Deny => pen.text("deny"),
-            Action::Permit => pen.text("permit"),
-        }
+        pen.text(self.text());
     }
 }

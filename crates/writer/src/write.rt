@@ -9,7 +9,8 @@ ghost use Rattle.writer.specs.Back.{RoundTrip};
 use crate::lines::put_list;
 use acl::line::Line;
 use acl::refusal::Refusal;
-use acl::terms::{PortTest, Protocol};
+use acl::side::Side;
+use acl::terms::Protocol;
 use ios::family::{Family, ListNumber};
 use ios::read::{MOST_BYTES, MOST_LINES};
 
@@ -17,11 +18,7 @@ use ios::read::{MOST_BYTES, MOST_LINES};
 fn standard_line(line: Line) -> bool
     ensures { result ≡ standard_line (shape line) }
 {
-    let destination = line.destination;
-    matches!(
-        (line.protocol, destination.wildcard, destination.ports),
-        (Protocol::Any, 0xffff_ffff, PortTest::Any)
-    )
+    line.protocol == Protocol::Any && line.destination == Side::any()
 }
 
 fn all_standard(lines: &[Line]) -> bool
@@ -56,21 +53,6 @@ fn write_held(lines: &[Line], list: ListNumber, memory: &mut [u8]) -> Result<usi
     Ok(put_list(memory, list, lines))
 }
 
-// Writes a list, by the definitions alone.
-fn write_text(lines: &[Line], number: u16, memory: &mut [u8]) -> Result<usize, Refusal>
-    ensures answer { result ≡ write_of (map shape lines.now) number (length memory.old) }
-    ensures written { memory.new ≡ memory_after result (text_for (map shape lines.now) number) memory.old }
-{
-    if lines.len() > MOST_LINES {
-        return Err(Refusal::TooManyLines);
-    }
-    let family = Family::try_from(number)?;
-    if !holds(family, lines) {
-        return Err(Refusal::NotStandard);
-    }
-    write_held(lines, ListNumber { number, family }, memory)
-}
-
 // Writes the lines of the list `number` in canonical form into text memory; the text's length.
 // A refused list leaves the memory as it was. What is written reads back as the same list.
 pub fn write(lines: &[Line], number: u16, memory: &mut [u8]) -> Result<usize, Refusal>
@@ -78,5 +60,12 @@ pub fn write(lines: &[Line], number: u16, memory: &mut [u8]) -> Result<usize, Re
     ensures written { memory.new ≡ memory_after result (text_for (map shape lines.now) number) memory.old }
     ensures back { RoundTrip }
 {
-    write_text(lines, number, memory)
+    if lines.len() > MOST_LINES {
+        return Err(Refusal::TooManyLines);
+    }
+    let list = ListNumber::try_from(number)?;
+    if !holds(list.family, lines) {
+        return Err(Refusal::NotStandard);
+    }
+    write_held(lines, list, memory)
 }

@@ -4,12 +4,12 @@ ghost use Rattle.model.specs.declared.node.Ref.TheVariants.{Code};
 ghost use Rattle.diagram.specs.Nodes.{Under};
 ghost use Rattle.diagram.specs.Collecting.{Marks, MarksAll, IsMarked, ClosedFrom, MarksReached, moved_to, CopiedTo, FromMarked};
 
-use super::Store;
+use super::{NODES, Store};
 use crate::guard::End;
 use model::node::Ref;
 
 // Marks the node that a reference refers to.
-fn mark(marks: &mut [bool; 2048], r: Ref)
+fn mark(marks: &mut [bool; NODES], r: Ref)
     requires { Under 2048 r }
     ensures { Marks r marks.old marks.new }
 {
@@ -19,11 +19,11 @@ fn mark(marks: &mut [bool; 2048], r: Ref)
 }
 
 // The marks of the nodes that these references refer to.
-pub(crate) fn mark_all(roots: &[Ref]) -> [bool; 2048]
+pub(crate) fn mark_all(roots: &[Ref]) -> [bool; NODES]
     requires { (j : ℕ) → j < length roots.now → Under 2048 (slice_index_or roots.now j (Code 0)) }
     ensures { MarksAll roots.now result }
 {
-    let mut marks = [false; 2048];
+    let mut marks = [false; NODES];
     for r in roots {
         mark(&mut marks, *r);
     }
@@ -31,7 +31,7 @@ pub(crate) fn mark_all(roots: &[Ref]) -> [bool; 2048]
 }
 
 // Where a reference went.
-fn moved(to: &[Ref; 2048], r: Ref) -> Ref
+fn moved(to: &[Ref; NODES], r: Ref) -> Ref
     requires { Under 2048 r }
     ensures { result ≡ moved_to to.now r }
 {
@@ -42,7 +42,7 @@ fn moved(to: &[Ref; 2048], r: Ref) -> Ref
 }
 
 // Puts in place of each reference where it went.
-pub(crate) fn move_all(to: &[Ref; 2048], roots: &mut [Ref])
+pub(crate) fn move_all(to: &[Ref; NODES], roots: &mut [Ref])
     requires { (j : ℕ) → j < length roots.old → Under 2048 (slice_index_or roots.old j (Code 0)) }
     ensures { (j : ℕ) → j < length roots.old → slice_index_or roots.new j (Code 0) ≡ moved_to to.now (slice_index_or roots.old j (Code 0)) }
 {
@@ -53,7 +53,7 @@ pub(crate) fn move_all(to: &[Ref; 2048], roots: &mut [Ref])
 
 impl Store {
     // Marks what the marked nodes refer to, and what that refers to.
-    pub(crate) fn spread(&self, marks: &mut [bool; 2048])
+    pub(crate) fn spread(&self, marks: &mut [bool; NODES])
         requires inside { (k : ℕ) → IsMarked marks.old k → k < self.now.linked }
         ensures closed { ClosedFrom self.now marks.new 0 }
         ensures more { (k : ℕ) → IsMarked marks.old k → IsMarked marks.new k }
@@ -70,7 +70,7 @@ impl Store {
     }
 
     // Keeps what is marked and nothing else, and says where each node went.
-    pub(crate) fn keep(&mut self, end: &mut End, marks: &[bool; 2048]) -> [Ref; 2048]
+    pub(crate) fn keep(&mut self, end: &mut End, marks: &[bool; NODES]) -> [Ref; NODES]
         requires level { end.old.at ≡ self.old.linked }
         requires closed { ClosedFrom self.old marks.now 0 }
         ensures level { end.new.at ≡ self.new.linked }
@@ -80,7 +80,7 @@ impl Store {
     {
         let old = self.nodes;
         let count = self.linked;
-        let mut to = [Ref::Code(0); 2048];
+        let mut to = [Ref::Code(0); NODES];
         self.empty();
         end.at = 0;
         for i in 0..count {
@@ -88,9 +88,7 @@ impl Store {
                 let n = old[i];
                 let low = moved(&to, n.low);
                 let high = moved(&to, n.high);
-                if let Some(x) = self.join(end, n.place, low, high) {
-                    to[i] = x;
-                }
+                to[i] = self.join(end, n.place, low, high).unwrap();
             }
         }
         to

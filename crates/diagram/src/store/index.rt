@@ -5,12 +5,12 @@ ghost use Rattle.acl.specs.Headers.{width};
 ghost use Rattle.diagram.specs.Nodes.{Good, bucket, number};
 ghost use Rattle.diagram.specs.Stores.{nodes_of, Grows, Fits, New, Stands, Lacks, joined};
 
-use super::Store;
+use super::{NODES, Store};
 use crate::guard::End;
 use model::node::{Node, Ref};
 
 // A number of its own for each reference.
-fn numbered(r: Ref) -> u32
+fn reference_number(r: Ref) -> u32
     ensures value { result ≡ number r }
     ensures small { result < 131072 }
 {
@@ -25,8 +25,8 @@ fn bucket_of(n: Node) -> usize
     ensures value { result ≡ bucket n }
     ensures small { result < 4096 }
 {
-    let low = numbered(n.low);
-    let high = numbered(n.high);
+    let low = reference_number(n.low);
+    let high = reference_number(n.high);
     ((n.place as u32 + 31 * low + 1021 * high) % 4096) as usize
 }
 
@@ -43,9 +43,9 @@ impl Store {
             high: Ref::Code(0),
         };
         Store {
-            nodes: [blank; 2048],
+            nodes: [blank; NODES],
             head: [None; 4096],
-            next: [None; 2048],
+            next: [None; NODES],
             linked: 0,
             cap,
         }

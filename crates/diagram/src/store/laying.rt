@@ -10,6 +10,7 @@ ghost use Rattle.diagram.specs.Layings.{Next};
 use super::{Notes, Past, Store};
 use crate::cube::Cube;
 use crate::guard::End;
+use acl::header::WIDTH;
 use model::ask::is_met;
 use model::node::Ref;
 
@@ -20,7 +21,7 @@ impl Store {
         ensures { result ≡ top width (nodes_of self.now) r }
     {
         match r {
-            Ref::Code(_) => 104,
+            Ref::Code(_) => WIDTH as u8,
             Ref::Node(i) => self.nodes[i as usize].place,
         }
     }
@@ -33,7 +34,7 @@ impl Store {
     {
         let asked = *cube.next.get(from as usize)?;
         let place = asked.min(self.top(f));
-        (place < 104).then_some(place)
+        (place < WIDTH as u8).then_some(place)
     }
 
     // What is left of a reference where the bit at the place is 0, and where it is 1.

@@ -1,13 +1,14 @@
 // What a laying notes.
 ghost use Rattle.std.specs.Prelude.{◌≡◌, ℕ, None, slice_index_or};
 
-use super::Notes;
+use super::{NODES, Notes};
+use acl::header::WIDTH;
 
 impl Notes {
     pub(crate) fn new() -> Notes {
         Notes {
-            made: [None; 2048],
-            past: [None; 104],
+            made: [None; NODES],
+            past: [None; WIDTH],
         }
     }
 
@@ -16,7 +17,7 @@ impl Notes {
         ensures made { (k : ℕ) → slice_index_or self.new.made k None ≡ None }
         ensures past { (p : ℕ) → slice_index_or self.new.past p None ≡ None }
     {
-        self.made = [None; 2048];
-        self.past = [None; 104];
+        self.made = [None; NODES];
+        self.past = [None; WIDTH];
     }
 }

@@ -6,31 +6,32 @@ ghost use Rattle.diagram.specs.Nodes.{Under};
 ghost use Rattle.diagram.specs.Stores.{nodes_of, value_in, Fits};
 ghost use Rattle.diagram.specs.Walks.{row_of, deepest, DeepNoted};
 
-use super::Store;
+use super::{NODES, Store};
+use acl::header::WIDTH;
 use model::node::Ref;
 
 impl Store {
-    // The code that a reference gives to bits by place; the tests made are added to `made`.
-    pub(crate) fn decide(&self, bits: &[bool; 104], r: Ref, made: &mut u16) -> u16
+    // The code that a reference gives to bits by place, and how many of them were tested.
+    pub(crate) fn decide(&self, bits: &[bool; WIDTH], r: Ref) -> (u16, u16)
         requires under { Under self.now.linked r }
-        requires few { made.old ≤ top width (nodes_of self.now) r }
-        ensures code { result ≡ value_in self.now r (row_of bits.now) }
-        ensures tests { made.new ≡ made.old + tests_from width (nodes_of self.now) width 0 (row_of bits.now) r }
+        ensures code { result.0 ≡ value_in self.now r (row_of bits.now) }
+        ensures tests { result.1 ≡ tests_from width (nodes_of self.now) width 0 (row_of bits.now) r }
+        ensures small { result.1 + top width (nodes_of self.now) r ≤ width }
     {
         match r {
-            Ref::Code(c) => c,
+            Ref::Code(c) => (c, 0),
             Ref::Node(i) => {
                 let n = self.nodes[i as usize];
-                *made += 1;
                 let bit = bits[n.place as usize];
                 let on = if bit { n.high } else { n.low };
-                self.decide(bits, on, made)
+                let (code, tests) = self.decide(bits, on);
+                (code, tests + 1)
             }
         }
     }
 
     // The most tests from a reference on. Each node's number is noted once it is known.
-    pub(crate) fn depth(&self, deep: &mut [Option<u8>; 2048], r: Ref) -> u8
+    pub(crate) fn depth(&self, deep: &mut [Option<u8>; NODES], r: Ref) -> u8
         requires under { Under self.now.linked r }
         requires noted { DeepNoted self.now deep.old }
         ensures noted { DeepNoted self.now deep.new }
@@ -55,14 +56,14 @@ impl Store {
 
     // The first bits from the place `from` on at which two references differ: 0 where that tells
     // them apart, else 1.
-    pub(crate) fn differ(&self, bits: &mut [bool; 104], from: u8, a: Ref, b: Ref)
+    pub(crate) fn differ(&self, bits: &mut [bool; WIDTH], from: u8, a: Ref, b: Ref)
         requires placed { from ≤ width }
         requires one { Fits self.now from a }
         requires other { Fits self.now from b }
         ensures before { (k : ℕ) → k < from → slice_index_or bits.new k false ≡ slice_index_or bits.old k false }
         ensures row { (k : ℕ) → from ≤ k → k < width → slice_index_or bits.new k false ≡ first_from (nodes_of self.now) (width - from) from a b k }
     {
-        if from >= 104 {
+        if from >= WIDTH as u8 {
             return;
         }
         let (low_a, high_a) = self.branches(from, a);

@@ -9,7 +9,8 @@ use super::{Denied, Table};
 use crate::cube::Cube;
 use crate::guard::{End, Laying};
 use crate::store::collecting::{mark_all, move_all};
-use crate::store::{Notes, Store};
+use crate::store::{NODES, Notes, Store};
+use acl::header::WIDTH;
 use model::node::Ref;
 
 // Lays a piece, and keeps the nodes made only if all found room.
@@ -42,7 +43,7 @@ impl Table {
         ensures none { result.end.at ≡ 0 }
         ensures room { room result ≡ room_for nodes }
     {
-        let cap = if nodes > 2048 { 0 } else { nodes };
+        let cap = if nodes > NODES { 0 } else { nodes };
         Table {
             store: Store::new(cap),
             end: End { at: 0 },
@@ -111,13 +112,11 @@ impl Table {
     }
 
     // The code that a reference gives to bits by place, and how many of them were tested.
-    pub fn decide(&self, bits: &[bool; 104], r: Ref) -> Result<(u16, u16), Denied>
+    pub fn decide(&self, bits: &[bool; WIDTH], r: Ref) -> Result<(u16, u16), Denied>
         ensures { Decides self.now bits.now r result }
     {
         self.check(r)?;
-        let mut tests = 0;
-        let code = self.store.decide(bits, r, &mut tests);
-        Ok((code, tests))
+        Ok(self.store.decide(bits, r))
     }
 
     // The most tests that any bits make from a reference on.
@@ -125,12 +124,12 @@ impl Table {
         ensures { Deep self.now r result }
     {
         self.check(r)?;
-        let mut deep = [None; 2048];
+        let mut deep = [None; NODES];
         Ok(self.store.depth(&mut deep, r))
     }
 
     // The first bits by place at which two references differ, or none where they are equal.
-    pub fn first_difference(&self, a: Ref, b: Ref) -> Result<Option<[bool; 104]>, Denied>
+    pub fn first_difference(&self, a: Ref, b: Ref) -> Result<Option<[bool; WIDTH]>, Denied>
         ensures { Differs self.now a b result }
     {
         self.check(a)?;
@@ -138,7 +137,7 @@ impl Table {
         if a == b {
             return Ok(None);
         }
-        let mut bits = [false; 104];
+        let mut bits = [false; WIDTH];
         self.store.differ(&mut bits, 0, a, b);
         Ok(Some(bits))
     }

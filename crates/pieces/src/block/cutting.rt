@@ -82,33 +82,25 @@ fn range(at: u32, end: u32) -> Blocks
     }
 }
 
-// The blocks of the range of a port test, and for neq of the two of them.
-#[tactic(auto, using(crate::proofs::Cuts::length_between), unfolding(crate::specs::Blocks::blocks))]
-fn ranges(test: PortTest) -> Blocks
-    ensures left { blocks_left result ≡ blocks test }
-    ensures few { length (blocks_left result) ≤ 65536 }
-{
-    match test {
-        PortTest::Any => range(0, PORTS),
-        PortTest::Eq(n) => range(n as u32, n as u32 + 1),
-        PortTest::Neq(n) => Blocks {
-            first: Ports::new(0, n as u32),
-            second: Ports::new(n as u32 + 1, PORTS),
-        },
-        PortTest::Lt(n) => range(0, n as u32),
-        PortTest::Gt(n) => range(n as u32 + 1, PORTS),
-        PortTest::Range(a, b) => range(a as u32, b as u32 + 1),
-    }
-}
-
 impl Blocks {
-    // The blocks of a port test, upwards.
+    // The blocks of a port test, upwards: those of its range, and for neq of the two of them.
+    #[tactic(auto, using(crate::proofs::Cuts::length_between), unfolding(crate::specs::Blocks::blocks))]
     pub fn of(test: PortTest) -> Blocks
         ensures left { blocks_left result ≡ blocks test }
         ensures few { length (blocks_left result) ≤ 65536 }
         ensures stands { BlocksStand test }
     {
-        ranges(test)
+        match test {
+            PortTest::Any => range(0, PORTS),
+            PortTest::Eq(n) => range(n as u32, n as u32 + 1),
+            PortTest::Neq(n) => Blocks {
+                first: Ports::new(0, n as u32),
+                second: Ports::new(n as u32 + 1, PORTS),
+            },
+            PortTest::Lt(n) => range(0, n as u32),
+            PortTest::Gt(n) => range(n as u32 + 1, PORTS),
+            PortTest::Range(a, b) => range(a as u32, b as u32 + 1),
+        }
     }
 
     // No blocks at all.

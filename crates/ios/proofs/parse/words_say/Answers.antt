@@ -15,5 +15,5 @@ opens_list known r (w ∷ ws) is = rw (named_is w.bytes (codes "access-list") is
 pub returns : goal.returns
 returns c =
     c.body.ensures
-    ∙ ap (λ r. body_says (list_number_of c.args.known r)) c.pass.ensures
-    ∙ sym (opens_list c.args.known (rest c.args.words.now) (rest c.args.words.now).words (sym c.if-not-next_is.ensures))
+    ∙ ap (λ r. body_says (list_number_of c.args.known r)) c.if-not-takes.ensures.left
+    ∙ sym (opens_list c.args.known (rest c.args.words.now) (rest c.args.words.now).words (sym c.if-not-takes.ensures.found))

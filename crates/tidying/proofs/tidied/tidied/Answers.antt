@@ -1,14 +1,7 @@
 use Rattle.std.proofs.Common.{refl, sym, arith}
 use Rattle.std.proofs.lemmas.Grind.{common_steps}
 use Rattle.ios.proofs.Fronts.{lines_read}
-use Rattle.tidying.proofs.Standing.{tidied_stands}
 use Rattle.tidying.proofs.tidied.tidied.Goals as goal
-
-pub returns-in-Err-clause-stands : goal.returns-in-Err-clause-stands
-returns-in-Err-clause-stands c = tidied_stands
-
-pub returns-in-Ok-eq0-clause-stands : goal.returns-in-Ok-eq0-clause-stands
-returns-in-Ok-eq0-clause-stands c = tidied_stands
 
 pub returns-in-Ok-clause-output : goal.returns-in-Ok-clause-output
 returns-in-Ok-clause-output c =
@@ -16,6 +9,3 @@ returns-in-Ok-clause-output c =
     let count = (read.stands.sound c.args.input.now 1024 c.in-Ok.field-0 (sym read.answer)).1 in
     let front = lines_read c.args.input.now 1024 c.in-Ok.field-0 _ c.read.new.memory read.answer read.stands refl read.written in
     grind (arith, common_steps, front, count, read.answer)
-
-pub returns-in-Ok-clause-stands : goal.returns-in-Ok-clause-stands
-returns-in-Ok-clause-stands c = tidied_stands

@@ -12,7 +12,7 @@ returns-then-same-clause-row t c =
     let lb = c.branches-low_b.result.0 in
     let e : c.eq-same.result ≡ true = c.if-same.true in
     turned_high s p c.args.a c.args.b la c.branches-low_a.result.1 lb c.branches-low_b.result.1 old c.differ.new.bits
-    c.if-from-ge104.false (omega arith) c.branches-low_a.ensures c.branches-low_b.ensures
+    c.if-from.false (omega arith) c.branches-low_a.ensures c.branches-low_b.ensures
     (record {
       same = same_ref_true la lb (search rules);
       before = λ k m. c.differ.ensures.before k m ∙ ap (λ (x : Bool). get_or (set old p x) k false) e;
@@ -28,7 +28,7 @@ returns-else-same-clause-row t c =
     let lb = c.branches-low_b.result.0 in
     let e : c.eq-same.result ≡ false = c.if-same.false in
     turned_low s p c.args.a c.args.b la c.branches-low_a.result.1 lb c.branches-low_b.result.1 old c.differ-else-same.new.bits
-    c.if-from-ge104.false (omega arith) c.branches-low_a.ensures c.branches-low_b.ensures
+    c.if-from.false (omega arith) c.branches-low_a.ensures c.branches-low_b.ensures
     (record {
       same = same_ref_false la lb (search rules);
       before = λ k m. c.differ-else-same.ensures.before k m ∙ ap (λ (x : Bool). get_or (set old p x) k false) e;

@@ -4,4 +4,4 @@ use Rattle.diagram.proofs.store.index.bucket_of.Goals as goal
 
 pub returns-clause-value : goal.returns-clause-value
 unfolding bucket
-returns-clause-value c = rw (c.numbered-low.ensures.value, c.numbered-high.ensures.value)
+returns-clause-value c = rw (c.reference_number-low.ensures.value, c.reference_number-high.ensures.value)

@@ -1,5 +1,5 @@
 -- The walk gives the value, and its tests. Assumes nothing.
-use Rattle.std.proofs.Common.{sym, ◌∙◌, subst, zero-add}
+use Rattle.std.proofs.Common.{sym, subst}
 use Rattle.diagram.specs.Tables.{Tests}
 use Rattle.diagram.specs.Walks.{row_of}
 use Rattle.diagram.proofs.Reduces.{under_more}
@@ -11,7 +11,7 @@ returns c =
     let t = c.args.self.now in
     let row = row_of c.args.bits.now in (
       c.in_ok-check.ensures,
-      c.decide-code.ensures.code,
-      subst (Tests t c.args.r row) (sym (c.decide-code.ensures.tests ∙ zero-add _))
+      c.decide.ensures.code,
+      subst (Tests t c.args.r row) (sym c.decide.ensures.tests)
           (tests_so t.store c.args.r (under_more t.end.at t.store.linked c.args.r t.kept c.in_ok-check.ensures) row),
     )

@@ -1,9 +1,10 @@
 -- The asks of a piece by place. Assumes nothing.
 use Rattle.std.proofs.Common.{None, rules}
 use Rattle.orders.specs.Meanings.{order_of}
+use Rattle.orders.proofs.Calls.{filled_by}
 use Rattle.pieces.specs.Asks.{ask_of}
 use Rattle.pieces.specs.Left.{piece_shape}
-use Rattle.pieces.proofs.Turning.{turned, from_fn_gives}
+use Rattle.pieces.proofs.Turning.{turned}
 use Rattle.pieces.proofs.piece.Piece.asks.Goals as goal
 
 pub returns : goal.returns
@@ -18,4 +19,4 @@ returns g c =
       to = record { small = p.to.small; multiple = p.to.multiple; inside = p.to.inside };
     })
     c.from_fn.result
-    (λ q l. from_fn_gives (λ k. ask_of (piece_shape p) (g.O.Order.bits o k)) c.from_fn.ensures.items (λ x y f d. search rules) q None l)
+    (λ q l. filled_by (λ k. ask_of (piece_shape p) (g.O.Order.bits o k)) (λ x y f d. search rules) c.from_fn.result c.from_fn.ensures.items q None l)
