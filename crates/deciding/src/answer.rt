@@ -11,7 +11,7 @@ pub enum Answer {
 }
 
 // How many headers were permitted, denied and malformed.
-#[derive(Clone, Copy)]
+#[derive(Clone, Copy, Default)]
 pub struct Tally {
     pub permit: usize,
     pub deny: usize,

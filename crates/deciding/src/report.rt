@@ -35,11 +35,7 @@ fn put_answers(out: &mut String, lines: &[Line], headers: &[u8]) -> Result<Tally
     ensures count { IfOk result (λ t. t ≡ tally_of (map shape lines.now) (text_lines headers.now)) }
     ensures few { IfOk result (λ t. t.permit + t.deny + t.bad < 2 ^ 64) }
 {
-    let mut tally = Tally {
-        permit: 0,
-        deny: 0,
-        bad: 0,
-    };
+    let mut tally = Tally::default();
     for (t, bytes) in TextLines::new(headers).enumerate() {
         if let Some(answer) = answer(lines, t + 1, bytes) {
             tally.note(answer);

@@ -8,10 +8,12 @@ use Rattle.model.specs.declared.node.Ref.TheVariants.{Code, Node as At}
 use Rattle.model.specs.declared.node.Node.{Node}
 use Rattle.diagram.specs.Nodes.{Under, Good, Chained, Sound}
 
+-- a reference is under a number in one way at most
 Under-prop : (e : ℕ) (r : Ref) → IsProp (Under e r)
 Under-prop e (Code c) x y = λ i. tt
 Under-prop e (At k) x y = le_prop x y
 
+-- a node is good in one way at most
 Good-prop : (ns : List Node) (k : ℕ) (n : Node) → IsProp (Good ns k n)
 Good-prop ns k n x y = λ i. record {
   placed = le_prop x.placed y.placed i;
@@ -22,6 +24,7 @@ Good-prop ns k n x y = λ i. record {
   apart = ¬_prop x.apart y.apart i;
 }
 
+-- a bucket has its last node, or none, in one way at most
 Chained-prop : (ns : List Node) (b e : ℕ) (h : Option ℕ) → IsProp (Chained ns b e h)
 Chained-prop ns b e None x y = λ i k l. ¬_prop (x k l) (y k l) i
 Chained-prop ns b e (Some j) x y = λ i. record {
@@ -30,6 +33,7 @@ Chained-prop ns b e (Some j) x y = λ i. record {
   all = (λ k l q. le_prop (x.all k l q) (y.all k l q) i);
 }
 
+-- nodes are sound in one way at most
 pub Sound-prop : (ns : List Node) (head next : List (Option ℕ)) (e : ℕ) → IsProp (Sound ns head next e)
 Sound-prop ns head next e x y = λ i. record {
   fits = le_prop x.fits y.fits i;
