@@ -9,7 +9,7 @@ use crate::family::{Family, ListNumber, Network};
 use crate::ports::SidePorts;
 use crate::said::Said;
 use crate::sides::{addresses, ports, side};
-use crate::terms::{action, list_number, log, next_is, protocol, takes};
+use crate::terms::{action, list_number, log, next_is, protocol};
 use acl::refusal::Refusal;
 use acl::side::Side;
 use acl::terms::{Action, Protocol};
@@ -89,12 +89,14 @@ fn body(words: &mut Words<'_>, known: Option<u16>) -> Result<Said, Stop>
 fn words_say(words: &mut Words<'_>, known: Option<u16>) -> Result<Said, Stop>
     ensures { said_ok result ≡ says known (rest words.old) }
 {
-    if words.peek().is_none_or(|word| word.opens_comment()) {
-        return Ok(Said { known, entry: None });
-    }
-    if !takes(words, b"access-list") {
+    let word = match words.peek() {
+        Some(word) if !word.opens_comment() => word,
+        _ => return Ok(Said { known, entry: None }),
+    };
+    if !word.is(b"access-list") {
         return Err(words.stop(Refusal::BadWord));
     }
+    words.pass();
     body(words, known)
 }
 

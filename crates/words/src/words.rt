@@ -35,6 +35,7 @@ fn before_blank(bytes: &[u8]) -> Option<usize>
 }
 
 // The first word at or after a column.
+#[inline(always)]
 fn next_part<'a>(line: &'a [u8], from: usize) -> Option<Part<'a>>
     ensures { Next line.now from result }
 {
@@ -48,6 +49,7 @@ fn next_part<'a>(line: &'a [u8], from: usize) -> Option<Part<'a>>
     })
 }
 
+#[inline(always)]
 fn has_dot(bytes: &[u8]) -> bool
     ensures { result ≡ has_dot bytes.now }
 {
@@ -55,6 +57,7 @@ fn has_dot(bytes: &[u8]) -> bool
 }
 
 // A part as the word that its bytes make it.
+#[inline(always)]
 fn word_of<'a>(part: Part<'a>) -> Word<'a>
     requires { 0 < length part.bytes.now }
     ensures same { word_part result ≡ part.entry }
@@ -101,6 +104,7 @@ impl<'a> Words<'a> {
     }
 
     // The next word, which stays the next.
+    #[inline(always)]
     pub fn peek(&self) -> Option<Word<'a>>
         ensures { Peeks (rest self.now).words result }
     {
