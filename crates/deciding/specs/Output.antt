@@ -15,7 +15,7 @@ use Rattle.deciding.specs.declared.answer.Answer.TheVariants.{Decided, Bad}
 use Rattle.deciding.specs.Halves.{list_part, header_part}
 use Rattle.deciding.specs.HeaderLines.{header_line}
 use Rattle.deciding.specs.declared.answer.Tally.{Tally}
-use Rattle.deciding.specs.Answers.{line_text, verdict_text, bad_text, answer_text, summary_text}
+use Rattle.deciding.specs.Answers.{line_text, verdict_text, bad_text, summary_text}
 
 -- what is printed for text line t of the header part
 abbrev pub answer_by : List Shape → ℕ → Result (Option Header) ℕ → List ℕ
@@ -66,13 +66,3 @@ report_of input = report_by (read_of (list_part input) 1024) (text_of (list_part
 abbrev pub answer_noted : Answer → Tally → Tally
 answer_noted (Decided found) t = verdict_noted (found_shape found) t
 answer_noted (Bad n c) t = tally t.permit t.deny (t.bad + 1)
-
--- what is printed for a text line of the header part, by the code's answer to it, if there is one
-abbrev pub printed : Option Answer → List ℕ
-printed None = []
-printed (Some a) = line_text (answer_text a)
-
--- and the tally after it
-abbrev pub counted : Option Answer → Tally → Tally
-counted None t = t
-counted (Some a) t = answer_noted a t

@@ -2,9 +2,7 @@ ghost use Rattle.std.specs.Prelude.{◌≡◌, ◌+◌, ◌^◌, ◌<◌, ◌++�
 ghost use Rattle.acl.specs.Shapes.{shape};
 ghost use Rattle.words.specs.Lines.{text_lines};
 ghost use Rattle.ios.specs.Reading.{read_of, text_of};
-ghost use Rattle.deciding.specs.declared.answer.Tally.{Tally as TallyT};
-ghost use Rattle.deciding.specs.HeaderLines.{header_line};
-ghost use Rattle.deciding.specs.Output.{answer_by, answers_from, noted, tally_of, report_by, report_of, printed, counted};
+ghost use Rattle.deciding.specs.Output.{answers_from, tally_of, report_by, report_of};
 ghost use Rattle.deciding.specs.Stands.{ReportStands};
 
 use crate::answer::{Answer, Summary, Tally};
@@ -17,18 +15,6 @@ use ios::read::{MOST_LINES, read};
 use std::alloc::{AllocError, Global};
 use words::lines::TextLines;
 
-// The answer to text line `line` of the header part, none where it says nothing.
-fn answer(lines: &[Line], line: usize, bytes: &[u8]) -> Option<Answer>
-    ensures text { printed result ≡ answer_by (map shape lines.now) line (header_line bytes.now) }
-    ensures count { (t : TallyT) → counted result t ≡ noted (map shape lines.now) (header_line bytes.now) t }
-{
-    match header_line(bytes) {
-        Ok(None) => None,
-        Ok(Some(header)) => Some(Answer::Decided(first_match(lines, header))),
-        Err(column) => Some(Answer::Bad { line, column }),
-    }
-}
-
 // Prints the answers to all headers, and counts them.
 fn put_answers(out: &mut String, lines: &[Line], headers: &[u8]) -> Result<Tally, AllocError>
     ensures text { OnOk result (string_bytes out.new ≡ string_bytes out.old ++ answers_from (map shape lines.now) 1 (text_lines headers.now)) }
@@ -37,10 +23,16 @@ fn put_answers(out: &mut String, lines: &[Line], headers: &[u8]) -> Result<Tally
 {
     let mut tally = Tally::default();
     for (t, bytes) in TextLines::new(headers).enumerate() {
-        if let Some(answer) = answer(lines, t + 1, bytes) {
-            tally.note(answer);
-            writeln!(out, "{answer}")?;
-        }
+        let answer = match header_line(bytes) {
+            Ok(None) => continue,
+            Ok(Some(header)) => Answer::Decided(first_match(lines, header)),
+            Err(column) => Answer::Bad {
+                line: t + 1,
+                column,
+            },
+        };
+        tally.note(answer);
+        writeln!(out, "{answer}")?;
     }
     Ok(tally)
 }
