@@ -7,7 +7,8 @@ use Rattle.model.specs.declared.node.Ref.{Ref}
 use Rattle.model.specs.declared.node.Ref.TheVariants.{Code, Node as At}
 use Rattle.model.specs.declared.node.Node.{Node}
 use Rattle.model.specs.Diagram.{top}
-use Rattle.diagram.specs.Nodes.{blank, table_of, Under, Good, bucket, Chained, Sound}
+use Rattle.diagram.specs.declared.store.link.Link.{Link}
+use Rattle.diagram.specs.Nodes.{blank, table_of, Under, Good, bucket, unlinked, linked, Chained, Sound}
 
 -- the first e nodes of two rows are the same
 abbrev pub Agree : List Node → List Node → ℕ → Type 0
@@ -51,18 +52,19 @@ below_suc e k h = go (ℕ_discrete k e)
     go (no p) = inl (omega arith)
 
 -- the index of no nodes
-pub sound_none : (ns : List Node) (next : List (Option ℕ)) → Sound ns (replicate 4096 None) next 0
+pub sound_none : (ns : List Node) (next : List Link) → Sound ns (replicate 4096 unlinked) next 0
+unfolding linked
 sound_none ns next = record {
   fits = omega arith;
   good = λ k l. absurd (not-suc-le-zero l);
   unique = λ j k l. absurd (not-suc-le-zero l);
-  heads = λ b l. subst (λ (x : Option ℕ). Chained ns b 0 x) (sym (get_or-replicate {A = Option ℕ} 4096 b None None l)) (λ k m. absurd (not-suc-le-zero m));
+  heads = λ b l. subst (λ (x : Link). Chained ns b 0 (linked x)) (sym (get_or-replicate 4096 b unlinked unlinked l)) (λ k m. absurd (not-suc-le-zero m));
   nexts = λ i l. absurd (not-suc-le-zero l);
 }
 
-module _ (ns : List Node) (head next : List (Option ℕ)) (e b : ℕ) (n : Node) (s : Sound ns head next e) (room : e < 2048)
+module _ (ns : List Node) (head next : List Link) (e b : ℕ) (n : Node) (link : Link) (s : Sound ns head next e) (room : e < 2048)
     (ln : length ns ≡ 2048) (lh : length head ≡ 4096) (lx : length next ≡ 2048) (eb : b ≡ bucket n) (lb : b < 4096)
-    (g : Good ns e n) (fresh : (k : ℕ) → k < e → table_of ns k ≡ n → ⊥) where
+    (g : Good ns e n) (fresh : (k : ℕ) → k < e → table_of ns k ≡ n → ⊥) (to : linked link ≡ Some e) where
   -- the node that was put stands at e
   here : table_of (set ns e n) e ≡ n
   here = get_or-set_same ns e n blank (omega arith)
@@ -109,44 +111,48 @@ module _ (ns : List Node) (head next : List (Option ℕ)) (e b : ℕ) (n : Node)
           last k q (inr z) = absurd (other (ap (λ j. bucket (table_of (set ns e n) j)) (sym z) ∙ q))
 
   -- the last node of each bucket
-  push_heads : (d : ℕ) → d < 4096 → Chained (set ns e n) d (e + 1) (get_or (set head b (Some e)) d None)
+  push_heads : (d : ℕ) → d < 4096 → Chained (set ns e n) d (e + 1) (linked (get_or (set head b link) d unlinked))
   push_heads d l = go (ℕ_discrete d b)
     where
-      first : Chained (set ns e n) b (e + 1) (Some e)
-      first = record { within = omega arith; owner = ap bucket here ∙ sym eb; all = λ k m q. omega arith }
+      first : Chained (set ns e n) b (e + 1) (linked link)
+      first = rw to (record { within = omega arith; owner = ap bucket here ∙ sym eb; all = λ k m q. omega arith })
 
-      go : Dec (d ≡ b) → Chained (set ns e n) d (e + 1) (get_or (set head b (Some e)) d None)
+      go : Dec (d ≡ b) → Chained (set ns e n) d (e + 1) (linked (get_or (set head b link) d unlinked))
       go (yes p) =
-          subst (λ (x : ℕ). Chained (set ns e n) x (e + 1) (get_or (set head b (Some e)) x None)) (sym p)
-          (subst (λ (x : Option ℕ). Chained (set ns e n) b (e + 1) x) (sym (get_or-set_same head b (Some e) None (omega arith))) first)
+          subst (λ (c : ℕ). Chained (set ns e n) c (e + 1) (linked (get_or (set head b link) c unlinked))) (sym p)
+          (subst (λ (y : Link). Chained (set ns e n) b (e + 1) (linked y)) (sym (get_or-set_same head b link unlinked (omega arith))) first)
       go (no p) =
-          subst (λ (x : Option ℕ). Chained (set ns e n) d (e + 1) x) (sym (get_or-set_other head b d (Some e) None p))
-          (longer d (get_or head d None) p (chained_same ns (set ns e n) d e (get_or head d None) (set_agree ns e n) (s.heads d l)))
+          subst (λ (y : Link). Chained (set ns e n) d (e + 1) (linked y)) (sym (get_or-set_other head b d link unlinked p))
+          (longer d (linked (get_or head d unlinked)) p
+          (chained_same ns (set ns e n) d e (linked (get_or head d unlinked)) (set_agree ns e n) (s.heads d l)))
 
   -- and of each node the one before it in its bucket
   push_nexts : (i : ℕ) → i < e + 1
-      → Chained (set ns e n) (bucket (table_of (set ns e n) i)) i (get_or (set next e (get_or head b None)) i None)
+      → Chained (set ns e n) (bucket (table_of (set ns e n) i)) i (linked (get_or (set next e (get_or head b unlinked)) i unlinked))
   push_nexts i l = go (below_suc e i l)
     where
       m : List Node
       m = set ns e n
 
-      x : List (Option ℕ)
-      x = set next e (get_or head b None)
+      before : Link
+      before = get_or head b unlinked
 
-      go : (i < e) ⊎ (i ≡ e) → Chained m (bucket (table_of m i)) i (get_or x i None)
+      rest : List Link
+      rest = set next e before
+
+      go : (i < e) ⊎ (i ≡ e) → Chained m (bucket (table_of m i)) i (linked (get_or rest i unlinked))
       go (inl h) =
-          subst (λ (y : Option ℕ). Chained m (bucket (table_of m i)) i y) (sym (get_or-set_other next e i (get_or head b None) None (omega arith)))
-          (subst (λ (y : Node). Chained m (bucket y) i (get_or next i None)) (sym (set_agree ns e n i h))
-          (chained_same ns m (bucket (table_of ns i)) i (get_or next i None) (λ j lj. set_agree ns e n j (omega arith)) (s.nexts i h)))
+          subst (λ (y : Link). Chained m (bucket (table_of m i)) i (linked y)) (sym (get_or-set_other next e i before unlinked (omega arith)))
+          (subst (λ (y : Node). Chained m (bucket y) i (linked (get_or next i unlinked))) (sym (set_agree ns e n i h))
+          (chained_same ns m (bucket (table_of ns i)) i (linked (get_or next i unlinked)) (λ j lj. set_agree ns e n j (omega arith)) (s.nexts i h)))
       go (inr p) =
-          subst (λ (y : ℕ). Chained m (bucket (table_of m y)) y (get_or x y None)) (sym p)
-          (subst (λ (y : Option ℕ). Chained m (bucket (table_of m e)) e y) (sym (get_or-set_same next e (get_or head b None) None (omega arith)))
-          (subst (λ (y : ℕ). Chained m y e (get_or head b None)) (eb ∙ sym (ap bucket here))
-          (chained_same ns m b e (get_or head b None) (set_agree ns e n) (s.heads b lb))))
+          subst (λ (y : ℕ). Chained m (bucket (table_of m y)) y (linked (get_or rest y unlinked))) (sym p)
+          (subst (λ (y : Link). Chained m (bucket (table_of m e)) e (linked y)) (sym (get_or-set_same next e before unlinked (omega arith)))
+          (subst (λ (y : ℕ). Chained m y e (linked before)) (eb ∙ sym (ap bucket here))
+          (chained_same ns m b e (linked before) (set_agree ns e n) (s.heads b lb))))
 
   -- so the index with one node more is sound
-  pub push_sound : Sound (set ns e n) (set head b (Some e)) (set next e (get_or head b None)) (e + 1)
+  pub push_sound : Sound (set ns e n) (set head b link) (set next e (get_or head b unlinked)) (e + 1)
   push_sound = record { fits = omega arith; good = push_good; unique = push_unique; heads = push_heads; nexts = push_nexts }
 
 -- What is left to look at in the chain of n's bucket: no node after i is n, and no node at all where nothing is left.

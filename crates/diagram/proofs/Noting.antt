@@ -1,5 +1,5 @@
 -- Notes stay right while nodes are added and notes are taken. Assumes nothing.
-use Rattle.std.proofs.Common.{◌≡◌, ℕ, ◌<◌, List, length, get_or, set, Option, Some, None, sym, ap, ◌∙◌, subst, arith, get_or-set_other, get_or-set_same}
+use Rattle.std.proofs.Common.{◌≡◌, ℕ, ◌<◌, Bool, true, false, cond, nat_eq, List, length, get_or, set, Option, Some, None, sym, ap, ◌∙◌, subst, arith, get_or-set_other, get_or-set_same}
 use native.Mathlib.Decide.{ℕ_discrete}
 use Rattle.model.specs.declared.node.Ref.{Ref}
 use Rattle.model.specs.declared.node.Ref.TheVariants.{Node as At}
@@ -9,7 +9,7 @@ use Rattle.diagram.specs.declared.store.Store.{Store}
 use Rattle.diagram.specs.declared.store.Past.{Past}
 use Rattle.diagram.specs.declared.store.Notes.{Notes}
 use Rattle.diagram.specs.Nodes.{Under}
-use Rattle.diagram.specs.Stores.{nodes_of, Grows, Stands, laid_from, Noted, Note}
+use Rattle.diagram.specs.Stores.{nodes_of, Grows, Stands, laid_from, unmade, made_in, Noted, Note}
 use Rattle.diagram.proofs.Reduces.{under_more}
 use Rattle.diagram.proofs.Growing.{fits_grows, value_grows}
 use Rattle.diagram.proofs.Skips.{laid_grows}
@@ -21,18 +21,23 @@ stands_grows s t p g x h k = record {
   is = λ v. value_grows s t h x k.fits.under v ∙ k.is v;
 }
 
--- what holds of all that stands in a row of notes still does when one more is put there
-put_kept : {A : Type 0} (P : ℕ → A → Type 0) (l : List (Option A)) (i : ℕ) (a : A) → i < length l → P i a
-    → ((k : ℕ) (b : A) → get_or l k None ≡ Some b → P k b)
-    → (k : ℕ) (b : A) → get_or (set l i (Some a)) k None ≡ Some b → P k b
-put_kept P l i a m here old k b e = go (ℕ_discrete k i)
+-- what holds of all that is read in a row still does when more is put there of which it holds
+put_kept : {A B : Type 0} (P : ℕ → A → Type 0) (read : B → Option A) (d : B) (l : List B) (i : ℕ) (b : B) → i < length l
+    → ((a : A) → read b ≡ Some a → P i a)
+    → ((k : ℕ) (a : A) → read (get_or l k d) ≡ Some a → P k a)
+    → (k : ℕ) (a : A) → read (get_or (set l i b) k d) ≡ Some a → P k a
+put_kept P read d l i b m here old k a e = go (ℕ_discrete k i)
   where
-    go : Dec (k ≡ i) → P k b
+    go : Dec (k ≡ i) → P k a
     go (yes z) =
-        let x : Some a ≡ Some b = sym (get_or-set_same l i (Some a) None m) ∙ ap (λ j. get_or (set l i (Some a)) j None) (sym z) ∙ e in
-        let y : a ≡ b = cc x in
-        subst (λ j. P j b) (sym z) (subst (P i) y here)
-    go (no z) = old k b (sym (get_or-set_other l i k (Some a) None z) ∙ e)
+        subst (λ j. P j a) (sym z)
+        (here a (ap read (sym (get_or-set_same l i b d m)) ∙ ap (λ j. read (get_or (set l i b) j d)) (sym z) ∙ e))
+    go (no z) = old k a (ap read (sym (get_or-set_other l i k b d z)) ∙ e)
+
+-- what is read where only x can be is x
+only : {A : Type 0} (b : Bool) (x a : A) → cond b (Some x) None ≡ Some a → x ≡ a
+only true x a e = cc e
+only false x a e = absurd (cc e)
 
 module _ (c : Cube) where
   -- so a note stays right,
@@ -64,9 +69,13 @@ module _ (c : Cube) where
 
   -- a note at a node's own place
   pub note_node : (s : Store) (n : Notes) (p i : ℕ) (f x : Ref) → Noted s c n → f ≡ At i → (nodes_of s i).place ≡ p
-      → Under s.linked f → Note s c p f x → i < length n.made
-      → Noted s c (record { made = set n.made i (Some x); past = n.past })
-  note_node s n p i f x h ef ep u m l = record { made = put_kept (Kept s) n.made i x l here h.made; past = h.past }
+      → Under s.linked f → Note s c p f x → i < length n.made → (later : _)
+      → Noted s c (record { made = set n.made i (record { round = n.round; made = x }); past = n.past; round = n.round; no_later = later })
+  note_node s n p i f x h ef ep u m l later = record {
+    made = put_kept (Kept s) (made_in n.round) unmade n.made i (record { round = n.round; made = x }) l
+        (λ a e. subst (Kept s i) (only (nat_eq n.round n.round) x a e) here) h.made;
+    past = h.past;
+  }
     where
       here : Kept s i x
       here = (
@@ -76,9 +85,16 @@ module _ (c : Cube) where
       )
 
   -- and one at another place
-  pub note_past : (s : Store) (n : Notes) (p : ℕ) (f f' x : Ref) → Noted s c n → f' ≡ f → Under s.linked f → Note s c p f x → p < length n.past
-      → Noted s c (record { made = n.made; past = set n.past p (Some (record { over = f'; made = x })) })
-  note_past s n p f f' x h o u m l = record { made = h.made; past = put_kept (Left s) n.past p (record { over = f'; made = x }) l here h.past }
+  pub note_past : (s : Store) (n : Notes) (p : ℕ) (f f' x : Ref) → Noted s c n → f' ≡ f → Under s.linked f → Note s c p f x
+      → p < length n.past → (later : _)
+      → Noted s c (record { made = n.made; past = set n.past p (Some (record { over = f'; made = x })); round = n.round; no_later = later })
+  note_past s n p f f' x h o u m l later = record {
+    made = h.made;
+    past = put_kept (Left s) (λ y. y) None n.past p (Some new) l (λ a e. (let z : new ≡ a = cc e in subst (Left s p) z here)) h.past;
+  }
     where
-      here : Left s p (record { over = f'; made = x })
+      new : Past
+      new = record { over = f'; made = x }
+
+      here : Left s p new
       here = subst (λ r. Under s.linked r × Stands s p (laid_from c s p r) x) (sym o) (u, m)

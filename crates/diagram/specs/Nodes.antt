@@ -1,11 +1,12 @@
 -- Nodes in a row, and the index by which they are found again. This file names no struct with a ghost field.
 -- Assumes nothing.
-use Rattle.std.specs.Prelude.{◌≡◌, ℕ, ◌+◌, ◌*◌, ◌%◌, ◌<◌, ◌≤◌, ◌≢◌, List, Option, Some, None, slice_index_or}
+use Rattle.std.specs.Prelude.{◌≡◌, ℕ, ◌+◌, ◌-◌, ◌*◌, ◌%◌, ◌<◌, ◌≤◌, cond, ◌≢◌, List, Option, Some, None, nat_eq, slice_index_or}
 use Rattle.acl.specs.Headers.{width}
 use Rattle.model.specs.declared.node.Ref.{Ref}
 use Rattle.model.specs.declared.node.Ref.TheVariants.{Code, Node as At}
 use Rattle.model.specs.declared.node.Node.{Node}
 use Rattle.model.specs.Diagram.{Table, top, Known}
+use Rattle.diagram.specs.declared.store.link.Link.{Link}
 
 -- what stands past the end of a row of nodes
 abbrev pub blank : Node
@@ -47,11 +48,19 @@ abbrev pub Chained : List Node → ℕ → ℕ → Option ℕ → Type 0
 Chained ns b e None = (k : ℕ) → k < e → bucket (table_of ns k) ≢ b
 Chained ns b e (Some i) = LastIn ns b e i
 
+-- a link to no node
+abbrev pub unlinked : Link
+unlinked = record { after = 0 }
+
+-- the node that a link leads to: a link holds the number after the node's own, or 0 where there is none
+unfoldable pub linked : Link → Option ℕ
+linked l = cond (nat_eq l.after 0) None (Some (l.after - 1))
+
 -- e nodes, each of them good and no two alike, and an index of them by buckets: the last node of each bucket, and of each
 -- node the one before it in its bucket
-pub record Sound (ns : List Node) (head next : List (Option ℕ)) (e : ℕ) : Type 0 where
+pub record Sound (ns : List Node) (head next : List Link) (e : ℕ) : Type 0 where
   pub fits : e ≤ 2048
   pub good : (k : ℕ) → k < e → Good ns k (table_of ns k)
   pub unique : (j k : ℕ) → j < e → k < e → table_of ns j ≡ table_of ns k → j ≡ k
-  pub heads : (b : ℕ) → b < 4096 → Chained ns b e (slice_index_or head b None)
-  pub nexts : (i : ℕ) → i < e → Chained ns (bucket (table_of ns i)) i (slice_index_or next i None)
+  pub heads : (b : ℕ) → b < 4096 → Chained ns b e (linked (slice_index_or head b unlinked))
+  pub nexts : (i : ℕ) → i < e → Chained ns (bucket (table_of ns i)) i (linked (slice_index_or next i unlinked))

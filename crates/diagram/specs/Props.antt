@@ -6,6 +6,7 @@ use mathlib.Core.HLevel.{¬_prop}
 use Rattle.model.specs.declared.node.Ref.{Ref}
 use Rattle.model.specs.declared.node.Ref.TheVariants.{Code, Node as At}
 use Rattle.model.specs.declared.node.Node.{Node}
+use Rattle.diagram.specs.declared.store.link.Link.{Link}
 use Rattle.diagram.specs.Nodes.{Under, Good, Chained, Sound}
 
 -- a reference is under a number in one way at most
@@ -34,7 +35,7 @@ Chained-prop ns b e (Some j) x y = λ i. record {
 }
 
 -- nodes are sound in one way at most
-pub Sound-prop : (ns : List Node) (head next : List (Option ℕ)) (e : ℕ) → IsProp (Sound ns head next e)
+pub Sound-prop : (ns : List Node) (head next : List Link) (e : ℕ) → IsProp (Sound ns head next e)
 Sound-prop ns head next e x y = λ i. record {
   fits = le_prop x.fits y.fits i;
   good = (λ k l. Good-prop ns k _ (x.good k l) (y.good k l) i);

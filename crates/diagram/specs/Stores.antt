@@ -1,8 +1,8 @@
 -- What a store of nodes means, and what changes of it keep. Assumes nothing.
-use Rattle.std.specs.Prelude.{◌≡◌, ℕ, ◌+◌, ◌-◌, ◌<◌, ◌≤◌, true, false, cond, ◌≢◌, Some, None, slice_index_or}
+use Rattle.std.specs.Prelude.{◌≡◌, ℕ, ◌+◌, ◌-◌, ◌<◌, ◌≤◌, true, false, cond, ◌≢◌, Option, Some, None, nat_eq, slice_index_or}
 use Rattle.acl.specs.Headers.{width}
 use Rattle.model.specs.declared.node.Ref.{Ref}
-use Rattle.model.specs.declared.node.Ref.TheVariants.{Node as At}
+use Rattle.model.specs.declared.node.Ref.TheVariants.{Code, Node as At}
 use Rattle.model.specs.Rows.{Bits}
 use Rattle.model.specs.Stages.{Stage}
 use Rattle.model.specs.Parts.{Part, PartOf}
@@ -11,6 +11,7 @@ use Rattle.model.specs.Laying.{in_from}
 use Rattle.diagram.specs.declared.cube.Cube.{Cube}
 use Rattle.diagram.specs.declared.store.Store.{Store}
 use Rattle.diagram.specs.declared.store.Past.{Past}
+use Rattle.diagram.specs.declared.store.Made.{Made}
 use Rattle.diagram.specs.declared.store.Notes.{Notes}
 use Rattle.diagram.specs.Cubes.{asked}
 use Rattle.diagram.specs.Nodes.{table_of, Under}
@@ -65,9 +66,21 @@ pub record Branches (s : Store) (p : ℕ) (f low high : Ref) : Type 0 where
   pub high_is : high ≡ step (nodes_of s) p true f
   pub is : (v : Bits) → value_in s f v ≡ joined s p low high v
 
+-- what stands at a node over which nothing was made
+abbrev pub unmade : Made
+unmade = record { round = 0; made = Code 0 }
+
+-- what was made over a node, where that was in round r
+abbrev pub made_in : ℕ → Made → Option Ref
+made_in r m = cond (nat_eq m.round r) (Some m.made) None
+
+-- what the notes hold of node k: what was made over it in their own round
+abbrev pub told : Notes → ℕ → Option Ref
+told n k = made_in n.round (slice_index_or n.made k unmade)
+
 -- each note is the piece laid over its node, or over its reference from its place on
 pub record Noted (s : Store) (c : Cube) (n : Notes) : Type 0 where
-  pub made : (k : ℕ) (x : Ref) → slice_index_or n.made k None ≡ Some x
+  pub made : (k : ℕ) (x : Ref) → told n k ≡ Some x
       → (k < s.linked) × Stands s (nodes_of s k).place (laid_from c s (nodes_of s k).place (At k)) x
   pub past : (p : ℕ) (e : Past) → slice_index_or n.past p None ≡ Some e → Under s.linked e.over × Stands s p (laid_from c s p e.over) e.made
 

@@ -1,13 +1,15 @@
-ghost use Rattle.std.specs.Prelude.{◌≤◌};
+ghost use Rattle.std.specs.Prelude.{◌≤◌, All};
 ghost use Rattle.diagram.specs.Nodes.{Sound};
 ghost use Rattle.diagram.specs.Props.{Sound-prop};
 
+use crate::store::link::Link;
 use acl::header::WIDTH;
 use model::node::{Node, Ref};
 
 pub mod collecting;
 pub mod index;
 pub mod laying;
+pub mod link;
 pub mod noting;
 pub mod walking;
 
@@ -20,8 +22,8 @@ pub(crate) const NODES: usize = 2048;
 #[derive(Drop)]
 pub struct Store {
     pub(crate) nodes: [Node; NODES],
-    pub(crate) head: [Option<u16>; 4096],
-    pub(crate) next: [Option<u16>; NODES],
+    pub(crate) head: [Link; 4096],
+    pub(crate) next: [Link; NODES],
     pub(crate) linked: usize,
     pub(crate) cap: usize,
     ghost sound: { Sound nodes head next linked } by { Sound-prop nodes head next linked },
@@ -36,10 +38,20 @@ pub struct Past {
     pub(crate) made: Ref,
 }
 
+// What was last made over a node, and in which round. A laying is a round, and what an earlier one
+// made does not count: so none has to clear all nodes.
+#[derive(Clone, Copy)]
+pub struct Made {
+    pub(crate) round: u16,
+    pub(crate) made: Ref,
+}
+
 // What a laying has made so far: over each node, and last at each place over a reference that
 // does not test it. Each is made once and then found here.
 #[derive(Drop)]
 pub struct Notes {
-    pub(crate) made: [Option<Ref>; NODES],
+    pub(crate) made: [Made; NODES],
     pub(crate) past: [Option<Past>; WIDTH],
+    pub(crate) round: u16,
+    ghost no_later: { All (λ m. m.round ≤ round) made },
 }

@@ -4,6 +4,7 @@ ghost use Rattle.model.specs.declared.node.Ref.TheVariants.{Code};
 ghost use Rattle.diagram.specs.Nodes.{Under};
 ghost use Rattle.diagram.specs.Collecting.{Marks, MarksAll, IsMarked, ClosedFrom, MarksReached, moved_to, CopiedTo, FromMarked};
 
+use super::link::Link;
 use super::{NODES, Store};
 use crate::guard::End;
 use model::node::Ref;
@@ -99,7 +100,7 @@ impl Store {
         ensures none { self.new.linked ≡ 0 }
         ensures cap { self.new.cap ≡ self.old.cap }
     {
-        self.head = [None; 4096];
+        self.head = [Link::NONE; 4096];
         self.linked = 0;
     }
 }

@@ -5,6 +5,7 @@ ghost use Rattle.acl.specs.Headers.{width};
 ghost use Rattle.diagram.specs.Nodes.{Good, bucket, number};
 ghost use Rattle.diagram.specs.Stores.{nodes_of, Grows, Fits, New, Stands, Lacks, joined};
 
+use super::link::Link;
 use super::{NODES, Store};
 use crate::guard::End;
 use model::node::{Node, Ref};
@@ -44,8 +45,8 @@ impl Store {
         };
         Store {
             nodes: [blank; NODES],
-            head: [None; 4096],
-            next: [None; NODES],
+            head: [Link::NONE; 4096],
+            next: [Link::NONE; NODES],
             linked: 0,
             cap,
         }
@@ -57,12 +58,12 @@ impl Store {
         requires small { b < 4096 }
         ensures { MatchOption result ((k : ℕ) → k < self.now.linked → nodes_of self.now k ≢ n) (λ i. (i < self.now.linked) × (nodes_of self.now i ≡ n)) }
     {
-        let mut at = self.head[b];
+        let mut at = self.head[b].node();
         while let Some(i) = at {
             if self.nodes[i as usize] == n {
                 return Some(i);
             }
-            at = self.next[i as usize];
+            at = self.next[i as usize].node();
         }
         None
     }
@@ -83,7 +84,7 @@ impl Store {
         let at = self.linked;
         self.nodes[at] = n;
         self.next[at] = self.head[b];
-        self.head[b] = Some(at as u16);
+        self.head[b] = Link::to(at as u16);
         self.linked = at + 1;
         at as u16
     }

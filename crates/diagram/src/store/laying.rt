@@ -7,7 +7,7 @@ ghost use Rattle.diagram.specs.Nodes.{Under};
 ghost use Rattle.diagram.specs.Stores.{nodes_of, Grows, Fits, New, Stands, Lacks, joined, laid_from, Branches, Noted, Note};
 ghost use Rattle.diagram.specs.Layings.{Next};
 
-use super::{Notes, Past, Store};
+use super::{Made, Notes, Past, Store};
 use crate::cube::Cube;
 use crate::guard::End;
 use acl::header::WIDTH;
@@ -61,7 +61,10 @@ impl Store {
         ensures { IfSome result (λ x. Note self.now cube.now place f x) }
     {
         match f {
-            Ref::Node(i) if self.nodes[i as usize].place == place => notes.made[i as usize],
+            Ref::Node(i) if self.nodes[i as usize].place == place => {
+                let m = notes.made[i as usize];
+                (m.round == notes.round).then_some(m.made)
+            }
             _ => notes.past[place as usize]
                 .filter(|past| past.over == f)
                 .map(|past| past.made),
@@ -79,7 +82,10 @@ impl Store {
     {
         match f {
             Ref::Node(i) if self.nodes[i as usize].place == place => {
-                notes.made[i as usize] = Some(x);
+                notes.made[i as usize] = Made {
+                    round: notes.round,
+                    made: x,
+                };
             }
             _ => {
                 notes.past[place as usize] = Some(Past { over: f, made: x });

@@ -11,21 +11,21 @@ use acl::header::WIDTH;
 use model::node::Ref;
 
 impl Store {
-    // The code that a reference gives to bits by place, and how many of them were tested.
-    pub(crate) fn decide(&self, bits: &[bool; WIDTH], r: Ref) -> (u16, u16)
+    // The code that a reference gives to bits by place, and the tests made, those before it
+    // included. Nothing is left to do after the way on was taken, so that this is a loop when built.
+    pub(crate) fn decide(&self, bits: &[bool; WIDTH], r: Ref, made: u16) -> (u16, u16)
         requires under { Under self.now.linked r }
+        requires few { made ≤ top width (nodes_of self.now) r }
         ensures code { result.0 ≡ value_in self.now r (row_of bits.now) }
-        ensures tests { result.1 ≡ tests_from width (nodes_of self.now) width 0 (row_of bits.now) r }
-        ensures small { result.1 + top width (nodes_of self.now) r ≤ width }
+        ensures tests { result.1 ≡ made + tests_from width (nodes_of self.now) width 0 (row_of bits.now) r }
     {
         match r {
-            Ref::Code(c) => (c, 0),
+            Ref::Code(c) => (c, made),
             Ref::Node(i) => {
                 let n = self.nodes[i as usize];
                 let bit = bits[n.place as usize];
                 let on = if bit { n.high } else { n.low };
-                let (code, tests) = self.decide(bits, on);
-                (code, tests + 1)
+                self.decide(bits, on, made + 1)
             }
         }
     }

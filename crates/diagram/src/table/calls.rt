@@ -116,7 +116,7 @@ impl Table {
         ensures { Decides self.now bits.now r result }
     {
         self.check(r)?;
-        Ok(self.store.decide(bits, r))
+        Ok(self.store.decide(bits, r, 0))
     }
 
     // The most tests that any bits make from a reference on.

@@ -9,4 +9,4 @@ loop-at-preserved c =
     let s = c.args.self.now in
     let w : Left s.nodes s.linked c.args.n (Some c.in-Some.i) = subst (Left s.nodes s.linked c.args.n) c.in-Some.is c.loop-at.invariant in
     let other : table_of s.nodes c.in-Some.i ≡ c.args.n → ⊥ = search rules in
-    left_next s.nodes s.linked c.args.n c.in-Some.i _ w other (s.sound.nexts c.in-Some.i w.within)
+    rw c.node-at-in-Some.ensures (left_next s.nodes s.linked c.args.n c.in-Some.i _ w other (s.sound.nexts c.in-Some.i w.within))
