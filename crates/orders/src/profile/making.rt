@@ -10,23 +10,25 @@ use acl::header::WIDTH;
 use acl::refusal::Refusal;
 use std::array;
 
-// The place of each number, if the list holds each of 0 to 103 once. A number that finds its
-// place taken stands twice; 104 different ones are all of them, so that none is left without.
+// The place of each number, if the list holds each of 0 to 103 once. A number that is taken
+// already stands twice; 104 different ones are all of them, so that none is left without.
 fn inverse(list: &[u16]) -> Option<[u8; WIDTH]>
     ensures { MatchOption result (EachOnce list.now → ⊥) (λ places. EachOnce list.now × ((p : ℕ) → p < width → slice_index places (slice_index list.now p) ≡ p)) }
 {
     if list.len() != WIDTH {
         return None;
     }
-    let mut places = [None; WIDTH];
+    let mut taken = [false; WIDTH];
+    let mut places = [0u8; WIDTH];
     for (place, bit) in list.iter().enumerate() {
         let bit = usize::from(*bit);
-        if places.get(bit)?.is_some() {
+        if *taken.get(bit)? {
             return None;
         }
-        places[bit] = Some(place as u8);
+        taken[bit] = true;
+        places[bit] = place as u8;
     }
-    Some(places.map(|place| place.unwrap()))
+    Some(places)
 }
 
 impl Profile {
