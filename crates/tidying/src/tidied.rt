@@ -25,6 +25,7 @@ fn canonical(heap: Global, lines: &[Line], number: u16) -> Result<Vec<u8>, Alloc
         Err(refusal) => refused(heap, Fault::from(refusal)),
         Ok(length) => {
             memory.truncate(length);
+            memory.shrink_to_fit();
             Ok(memory)
         }
     }

@@ -12,5 +12,5 @@ returns-in-Err c =
 
 pub returns-in-Ok : goal.returns-in-Ok
 returns-in-Ok c =
-    c.truncate.ensures.items ∙ text_cut (map shape c.args.lines.now) c.args.number c.in-Ok.length c.in_ok-memory.memory.len c.deref_mut.result.now _ _
+    c.shrink_to_fit.ensures.items ∙ c.truncate.ensures.items ∙ text_cut (map shape c.args.lines.now) c.args.number c.in-Ok.length c.in_ok-memory.memory.len c.deref_mut.result.now _ _
     c.in-Ok.ensures.answer c.in-Ok.ensures.written c.deref_mut.ensures.len c.in_ok-memory.ensures.len
