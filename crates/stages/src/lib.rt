@@ -25,6 +25,6 @@ pub fn verdict_code<K: Kind>(kind: &K, lines: &[Line], header: Header) -> u16
     ensures pruning { PruningStands (ruling (kind_of K.Kind kind.now)) }
 {
     let found = first_match(lines, header);
-    let verdict = found.map_or(kind.at_end(), |line| kind.of_line(Heard::from(line)));
+    let verdict = found.map_or_else(|| kind.at_end(), |line| kind.of_line(Heard::from(line)));
     kind.code(verdict)
 }

@@ -14,7 +14,7 @@ returns g c =
     record {
       answer = rw (
         c.code.ensures,
-        found_decides k c.args.lines.now c.args.header c.first_match-found.result c.map_or-verdict.result c.first_match-found.ensures (search rules),
+        found_decides k c.args.lines.now c.args.header c.first_match-found.result c.map_or_else-verdict.result c.first_match-found.ensures (search rules),
       );
       stages = stages_stand k;
       alike = alike_stands k (g.met.K.Kind.laws c.args.kind.now).apart;
