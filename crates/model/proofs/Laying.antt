@@ -1,22 +1,23 @@
--- What a node made while laying a piece stands for, and that it is a part no node was before. Assumes nothing.
-use mathlib.Core.Path.{◌≡◌, refl, sym, ap, ◌∙◌, subst}
+-- What laying a piece makes, and that what it makes is a part of the next stage. Assumes nothing.
+use mathlib.Core.Path.{◌≡◌, refl, sym, ap, ◌∙◌, subst, fun_ext}
 use mathlib.Core.Logic.{inl, inr, ◌≢◌}
-use mathlib.Core.Bool.{Bool, true, false, cond}
+use mathlib.Core.Bool.{Bool, true, false, cond, ◌&&◌}
 use mathlib.Core.List.{List, ◌∷◌, map}
-use Prim.Native.Nat.{ℕ, zero, suc, ◌-◌, ◌<◌}
+use Prim.Native.Nat.{ℕ, zero, suc, ◌+◌, ◌-◌, ◌≤◌, ◌<◌}
+use native.Mathlib.Nat.{zero-add, suc-add, add-zero}
 use native.Mathlib.Omega.{arith}
 use lib.ListN.{length, length-map}
 use lib.Dec.{eqb}
-use Rattle.model.specs.Rows.{Bits, put}
+use Rattle.model.specs.Rows.{Bits, splice, put}
 use Rattle.model.specs.Sets.{◌∈◌, Distinct, MoreThan}
-use Rattle.model.specs.Parts.{Matters, Part}
+use Rattle.model.specs.Parts.{fixed, Matters, Part, PartOf}
 use Rattle.model.specs.declared.node.Ref.{Ref}
 use Rattle.model.specs.declared.node.Ref.TheVariants.{Code as leaf, Node as node}
 use Rattle.model.specs.Diagram.{Table, top, step, walk, code_at, value, Known, Reduced, part_at, first_from}
-use Rattle.model.specs.Laying.{Made, skipped, found, Grown}
+use Rattle.model.specs.Laying.{Ask, meets, in_from, over, Made, skipped, found, Grown}
 use Rattle.model.proofs.Images.{map_in, distinct_map}
-use Rattle.model.proofs.Rows.{put_here, put_else}
-use Rattle.model.proofs.Diagram.{step_at, walk_known, value_from, value_on, canon, first_differs}
+use Rattle.model.proofs.Rows.{splice_low, splice_high, put_here, put_else}
+use Rattle.model.proofs.Diagram.{step_at, walk_known, walk_top, value_fixed, value_from, value_on, canon, first_differs}
 use Rattle.model.proofs.Nodes.{part_once}
 
 module _ {w : ℕ} {In In' : ℕ → Type 0} {t t' : Table} (red : Reduced w In t) (grown : Grown In In' t t') where
@@ -136,3 +137,82 @@ module _ {w : ℕ} {In : ℕ → Type 0} {t : Table} (red : Reduced w In t) wher
       only : (y : Part) → y ∈ (x ∷ map (part_at w t) ns) → F y
       only y (inl e) = subst F (sym e) fx
       only y (inr h) = let (i, m, e) = map_in (part_at w t) y ns h in subst F (sym e) (parts i m)
+
+module _ (q : ℕ → Ask) where
+  -- what a piece asks of d places goes by the bits there
+  in_agree : (d p : ℕ) (v row : Bits) → ((z : ℕ) → p ≤ z → z < p + d → v z ≡ row z) → in_from q d p v ≡ in_from q d p row
+  in_agree zero p v row h = refl
+  in_agree (suc d) p v row h =
+      ap (λ b. meets (q p) b && in_from q d (suc p) v) (h p (omega arith) (omega arith))
+      ∙ ap (λ b. meets (q p) (row p) && b) (in_agree d (suc p) v row (λ z a b. h z (omega arith) (omega arith)))
+
+  -- it asks of m places and then of d more
+  in_split : (m d p : ℕ) (row : Bits) → in_from q (m + d) p row ≡ (in_from q m p row && in_from q d (p + m) row)
+  in_split zero d p row = ap (λ n. in_from q n p row) (zero-add d) ∙ ap (λ n. in_from q d n row) (sym (add-zero p))
+  in_split (suc m) d p row =
+      ap (λ n. in_from q n p row) (suc-add m d)
+      ∙ ap (λ b. meets (q p) (row p) && b) (in_split m d (suc p) row ∙ ap (λ n. in_from q m (suc p) row && in_from q d n row) (omega arith))
+      ∙ assoc (meets (q p) (row p)) (in_from q m (suc p) row) (in_from q d (p + suc m) row)
+    where
+      assoc : (a b c : Bool) → (a && (b && c)) ≡ ((a && b) && c)
+      assoc true b c = refl
+      assoc false b c = refl
+
+  -- the next stage, with the bits before p fixed as the piece asks: the rest of the piece over what they lead to
+  pub over_fixed : {w : ℕ} {In : ℕ → Type 0} {t : Table} (red : Reduced w In t) (c : ℕ) (r : Ref) → Known In r → (d p : ℕ) → p + d ≡ w
+      → (u : Bits) → in_from q p 0 u ≡ true
+      → (row : Bits) → fixed p u (over w q c (value w t r)) row ≡ cond (in_from q d p row) c (value w t (walk t p u r) row)
+  unfolding over
+  over_fixed {w = w} {t = t} red c r k d p e u asked row =
+      ap (λ b. cond b c (value w t r v)) split ∙ ap (cond (in_from q d p row) c) (value_fixed red d p e u row r k)
+    where
+      v : Bits
+      v = splice p u row
+
+      split : in_from q w 0 v ≡ in_from q d p row
+      split =
+          ap (λ n. in_from q n 0 v) (sym e) ∙ in_split p d 0 v
+          ∙ ap (λ b. b && in_from q d (0 + p) v) (in_agree p 0 v u (λ z a b. splice_low p u row z (omega arith)) ∙ asked)
+          ∙ ap (λ n. in_from q d n v) (zero-add p)
+          ∙ in_agree d p v row (λ z a b. splice_high p u row z a)
+
+  -- the results of laying from the next place on make the result of laying from p
+  pub lay_step : {w : ℕ} {In : ℕ → Type 0} {t : Table} (red : Reduced w In t) (c : ℕ) (r : Ref) → Known In r → (d p : ℕ) → p + suc d ≡ w → p ≤ top w t r
+      → (l h : Ref)
+      → ((row : Bits) → value w t l row ≡ cond (meets (q p) false && in_from q d (suc p) row) c (value w t (step t p false r) row))
+      → ((row : Bits) → value w t h row ≡ cond (meets (q p) true && in_from q d (suc p) row) c (value w t (step t p true r) row))
+      → (m : Ref) → Made t In p l h m
+      → (row : Bits) → value w t m row ≡ cond (in_from q (suc d) p row) c (value w t r row)
+  lay_step {w = w} {t = t} red c r k d p e top-r l h low high m made row =
+      made_value red p l h m (omega arith) made row ∙ go (row p) ∙ ap (cond (in_from q (suc d) p row) c) (sym (value_on red d p e row r k top-r))
+    where
+      go : (b : Bool) → cond b (value w t h row) (value w t l row) ≡ cond (meets (q p) b && in_from q d (suc p) row) c (value w t (step t p b r) row)
+      go true = high row
+      go false = low row
+
+  -- a node to be made while laying is a part of the next stage
+  pub laid_part : {w : ℕ} {In : ℕ → Type 0} {t : Table} (red : Reduced w In t) (c : ℕ) (r : Ref) → Known In r → (d p : ℕ) → p + suc d ≡ w
+      → (u : Bits) → in_from q p 0 u ≡ true → (l h : Ref) → Known In l → Known In h → p < top w t l → p < top w t h → l ≢ h
+      → ((row : Bits) → value w t l row ≡ cond (meets (q p) false && in_from q d (suc p) row) c (value w t (step t p false (walk t p u r)) row))
+      → ((row : Bits) → value w t h row ≡ cond (meets (q p) true && in_from q d (suc p) row) c (value w t (step t p true (walk t p u r)) row))
+      → PartOf (over w q c (value w t r)) (pending red p l h)
+  laid_part {w = w} {In = In} {t = t} red c r k d p e u asked l h kl kh tl th n low high = record {
+    fixing = u;
+    is = fun_ext (λ row. go row (row p) ∙ sym (rest row));
+    matters = pending_matters red p l h (omega arith) kl kh tl th n;
+  }
+    where
+      a : Ref
+      a = walk t p u r
+
+      known : Known In a
+      known = walk_known red p u r k
+
+      go : (row : Bits) (b : Bool) → cond b (value w t h row) (value w t l row) ≡ cond (meets (q p) b && in_from q d (suc p) row) c (value w t (step t p b a) row)
+      go row true = high row
+      go row false = low row
+
+      rest : (row : Bits) → fixed p u (over w q c (value w t r)) row ≡ cond (meets (q p) (row p) && in_from q d (suc p) row) c (value w t (step t p (row p) a) row)
+      rest row =
+          over_fixed red c r k (suc d) p e u asked row
+          ∙ ap (cond (in_from q (suc d) p row) c) (value_on red d p e row a known (walk_top red p u r (omega arith) k))
