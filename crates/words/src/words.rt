@@ -34,7 +34,8 @@ fn before_blank(bytes: &[u8]) -> Option<usize>
     bytes.iter().position(|b| is_blank(*b))
 }
 
-// The first word at or after a column.
+// The first word at or after a column. Reading comes here several times for each word, so this
+// and what `peek` makes of it are built into their callers.
 #[inline(always)]
 fn next_part<'a>(line: &'a [u8], from: usize) -> Option<Part<'a>>
     ensures { Next line.now from result }
@@ -49,6 +50,7 @@ fn next_part<'a>(line: &'a [u8], from: usize) -> Option<Part<'a>>
     })
 }
 
+// Whether a dot is among the bytes.
 #[inline(always)]
 fn has_dot(bytes: &[u8]) -> bool
     ensures { result ≡ has_dot bytes.now }

@@ -2,7 +2,7 @@ ghost use Rattle.std.specs.Prelude.{◌≡◌, ◌<◌, Some};
 ghost use Rattle.diagram.specs.Nodes.{linked};
 
 // Where a chain of the index goes on: at a node, or nowhere. It takes two bytes, where an Option
-// takes four: a smaller table stays in the processor's first cache.
+// takes four: a table has 6,144 of them.
 #[derive(Clone, Copy)]
 pub struct Link {
     // the number after the node's own, or 0 for no node
