@@ -72,6 +72,23 @@ fn walks(rt: HostRuntime) -> Result<(), Fail> {
     Ok(())
 }
 
+// What an earlier laying noted does not count, also where the numbers of rounds have started over.
+#[test]
+fn rounds_start_over(rt: HostRuntime) -> Result<(), Fail> {
+    let mut table = Table::new(2048);
+    let root = lay(&mut table, TEN)?;
+    let asks = first_piece(b"access-list 10 permit 10.1.0.0 0.0.255.255")?.asks(&Plain);
+    let (two, three) = (Cube::new(asks, 2), Cube::new(asks, 3));
+    let over_two = table.lay(&two, root);
+    let over_three = table.lay(&three, root);
+    assert!(rt; over_two.is_ok() && over_three.is_ok() && over_two != over_three);
+    for _ in 0..33_000 {
+        assert_eq!(rt; table.lay(&two, root), over_two);
+        assert_eq!(rt; table.lay(&three, root), over_three);
+    }
+    Ok(())
+}
+
 #[test]
 fn no_such_node(rt: HostRuntime) -> Result<(), Fail> {
     let mut table = Table::new(8);
